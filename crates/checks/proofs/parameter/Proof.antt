@@ -1,0 +1,35 @@
+-- `checks::parameter` meets its contract. Assumes nothing.
+use borrow.Author.Needs.{needs}
+use Rattle.checks.specs.Causes.{parameterCause}
+use Rattle.checks.proofs.parameter.Statement.{statement}
+use Rattle.checks.proofs.parameter.Tie as tie
+
+float-requires : tie.Need-float-requires
+float-requires c κs = search needs
+
+cause-when-requires : tie.Need-cause-when-requires
+cause-when-requires c κs = search needs
+
+cause-when-requires-2 : tie.Need-cause-when-requires-2
+cause-when-requires-2 c κs = search needs
+
+lower-requires : tie.Need-lower-requires
+lower-requires c κs = search needs
+
+lower-requires-2 : tie.Need-lower-requires-2
+lower-requires-2 c κs = search needs
+
+returns : tie.Need-returns
+unfolding parameterCause
+returns c = cc
+
+pub parameter-spec : {M : Type 1} → statement M
+parameter-spec =
+    tie.close
+    (tie.spec
+    float-requires
+    cause-when-requires
+    cause-when-requires-2
+    lower-requires
+    lower-requires-2
+    returns)

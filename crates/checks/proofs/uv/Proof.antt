@@ -1,0 +1,21 @@
+-- `checks::uv` meets its contract. Assumes nothing.
+use borrow.Author.Needs.{needs}
+use Rattle.checks.specs.Causes.{uvCause}
+use Rattle.checks.proofs.uv.Statement.{statement}
+use Rattle.checks.proofs.uv.Tie as tie
+
+float-requires : tie.Need-float-requires
+float-requires c κs = search needs
+
+float-requires-2 : tie.Need-float-requires-2
+float-requires-2 c κs = search needs
+
+lower-requires : tie.Need-lower-requires
+lower-requires c κs = search needs
+
+returns : tie.Need-returns
+unfolding uvCause
+returns c = cc
+
+pub uv-spec : {M : Type 1} → statement M
+uv-spec = tie.close (tie.spec float-requires float-requires-2 lower-requires returns)

@@ -1,0 +1,7 @@
+pub mod Records
+pub mod Refusals
+pub mod Said
+pub mod Layout
+pub mod Rows
+pub mod Wires
+pub mod Shell

@@ -1,0 +1,362 @@
+// The records of document 003 (`compress.rs`), the refusals of document 01, and the rows in which records lie in lent slices.
+ghost use mathlib.Core.Path.{_≡_};
+ghost use mathlib.Core.List.{_++_};
+ghost use Prim.Native.Nat.{ℕ, _+_, _*_, _≤_};
+ghost use lib.ListN.{length, take, drop};
+ghost use lib.Seq.{sets};
+ghost use Rattle.compress.specs.Records.{frontOf, backOf, kindOf, numberOf};
+ghost use Rattle.compress.specs.Refusals.{refusalNumber, refusalOf};
+ghost use Rattle.compress.specs.Layout.{put};
+ghost use Rattle.compress.specs.Rows.{curveOf, edgeOf, edgeAt, vertexOf, vertexAt, curveFirst, curveCells, edgeNumbers, edgeFloats, vertexNumbers, vertexFloats};
+
+// A point of a surface's parameter plane.
+pub struct Uv {
+    pub u: f64,
+    pub v: f64,
+}
+
+// A curve: a span of a numbered curve, or a seam on a numbered surface between two of its points. Both run from t0 to t1.
+pub enum Curve {
+    Span {
+        number: u32,
+        t0: f64,
+        t1: f64,
+    },
+    Seam {
+        surface: u32,
+        p: Uv,
+        q: Uv,
+        t0: f64,
+        t1: f64,
+    },
+}
+
+// `CompressedEdge`: the two numbers of `vertices`, and `curve`.
+pub struct Edge {
+    pub front: u32,
+    pub back: u32,
+    pub curve: Curve,
+}
+
+// A point of `CompressedShell`'s `vertices`: its coordinates, or the curve as it was before the cut, with the parameter.
+pub enum Vertex {
+    Given { x: f64, y: f64, z: f64 },
+    Pending { curve: Curve, t: f64 },
+}
+
+// Why a call is turned away: a case for each row of document 01's table, in its order.
+pub enum Refusal {
+    Malformed,
+    VertexNumber,
+    EdgeNumber,
+    NotSized,
+    OutOfRange,
+    NoRoom,
+    PendingVertex,
+    PastEnd,
+    OddDivisor,
+    RepeatedVertex,
+    DeadEnd,
+    TooManyUses,
+    EmptyList,
+    SeveralCuts,
+    EmptyOpenWire,
+}
+
+// The number of a refusal in document 01's table.
+pub fn refusal_number(r: Refusal) -> u32
+    ensures { λ n. ⌜ n ≡ refusalNumber r ⌝ }
+{
+    match r {
+        Refusal::Malformed => 1,
+        Refusal::VertexNumber => 2,
+        Refusal::EdgeNumber => 3,
+        Refusal::NotSized => 4,
+        Refusal::OutOfRange => 5,
+        Refusal::NoRoom => 6,
+        Refusal::PendingVertex => 7,
+        Refusal::PastEnd => 8,
+        Refusal::OddDivisor => 9,
+        Refusal::RepeatedVertex => 10,
+        Refusal::DeadEnd => 11,
+        Refusal::TooManyUses => 12,
+        Refusal::EmptyList => 13,
+        Refusal::SeveralCuts => 14,
+        Refusal::EmptyOpenWire => 15,
+    }
+}
+
+// The refusal of causes 1 to 5, which the checks tell by their numbers.
+pub fn refusal_of(cause: u32) -> Refusal
+    ensures { λ r. ⌜ r ≡ refusalOf cause ⌝ }
+{
+    match cause {
+        2 => Refusal::VertexNumber,
+        3 => Refusal::EdgeNumber,
+        4 => Refusal::NotSized,
+        5 => Refusal::OutOfRange,
+        _ => Refusal::Malformed,
+    }
+}
+
+// The vertex at which the use `u` of the edge begins.
+pub fn front(e: Edge, u: u32) -> u32
+    ensures { λ r. ⌜ r ≡ frontOf e u ⌝ }
+{
+    if u % 2 == 0 { e.front } else { e.back }
+}
+
+// The vertex at which the use `u` of the edge ends.
+pub fn back(e: Edge, u: u32) -> u32
+    ensures { λ r. ⌜ r ≡ backOf e u ⌝ }
+{
+    if u % 2 == 0 { e.back } else { e.front }
+}
+
+// ---- records put together from the cells of a row
+
+pub fn curve_of(kind: u32, number: u32, p: Uv, q: Uv, t0: f64, t1: f64) -> Curve
+    ensures { λ r. ⌜ r ≡ curveOf kind number p q t0 t1 ⌝ }
+{
+    if kind == 0 {
+        Curve::Span { number, t0, t1 }
+    } else {
+        Curve::Seam {
+            surface: number,
+            p,
+            q,
+            t0,
+            t1,
+        }
+    }
+}
+
+pub fn edge_of(
+    front: u32,
+    back: u32,
+    kind: u32,
+    number: u32,
+    u0: f64,
+    v0: f64,
+    u1: f64,
+    v1: f64,
+    t0: f64,
+    t1: f64,
+) -> Edge
+    ensures { λ r. ⌜ r ≡ edgeOf front back kind number u0 v0 u1 v1 t0 t1 ⌝ }
+{
+    let p = Uv { u: u0, v: v0 };
+    let q = Uv { u: u1, v: v1 };
+    let curve = curve_of(kind, number, p, q, t0, t1);
+    Edge { front, back, curve }
+}
+
+pub fn vertex_of(
+    kind: u32,
+    curve_kind: u32,
+    number: u32,
+    f0: f64,
+    f1: f64,
+    f2: f64,
+    f3: f64,
+    t0: f64,
+    t1: f64,
+    t: f64,
+) -> Vertex
+    ensures { λ r. ⌜ r ≡ vertexOf kind «curve_kind» number f0 f1 f2 f3 t0 t1 t ⌝ }
+{
+    if kind == 0 {
+        return Vertex::Given {
+            x: f0,
+            y: f1,
+            z: f2,
+        };
+    }
+    let p = Uv { u: f0, v: f1 };
+    let q = Uv { u: f2, v: f3 };
+    let curve = curve_of(curve_kind, number, p, q, t0, t1);
+    Vertex::Pending { curve, t }
+}
+
+// The edge of row i.
+pub fn edge_at(numbers: &[u32], floats: &[f64], i: usize) -> Edge
+    requires { ⌜ (i * 4 + 4 ≤ length (now numbers)) × (i * 6 + 6 ≤ length (now floats)) ⌝ }
+    ensures { λ r. ⌜ r ≡ edgeAt (now (numbers .entry)) (now (floats .entry)) i ⌝ }
+{
+    let a = i * 4;
+    let b = i * 6;
+    edge_of(
+        numbers[a],
+        numbers[a + 1],
+        numbers[a + 2],
+        numbers[a + 3],
+        floats[b],
+        floats[b + 1],
+        floats[b + 2],
+        floats[b + 3],
+        floats[b + 4],
+        floats[b + 5],
+    )
+}
+
+// The vertex of row i.
+pub fn vertex_at(numbers: &[u32], floats: &[f64], i: usize) -> Vertex
+    requires { ⌜ (i * 3 + 3 ≤ length (now numbers)) × (i * 7 + 7 ≤ length (now floats)) ⌝ }
+    ensures { λ r. ⌜ r ≡ vertexAt (now (numbers .entry)) (now (floats .entry)) i ⌝ }
+{
+    let a = i * 3;
+    let b = i * 7;
+    vertex_of(
+        numbers[a],
+        numbers[a + 1],
+        numbers[a + 2],
+        floats[b],
+        floats[b + 1],
+        floats[b + 2],
+        floats[b + 3],
+        floats[b + 4],
+        floats[b + 5],
+        floats[b + 6],
+    )
+}
+
+// ---- records written to the cells of a row
+
+pub fn kind_of(c: Curve) -> u32
+    ensures { λ r. ⌜ r ≡ kindOf c ⌝ }
+{
+    match c {
+        Curve::Span {
+            number: _,
+            t0: _,
+            t1: _,
+        } => 0,
+        Curve::Seam {
+            surface: _,
+            p: _,
+            q: _,
+            t0: _,
+            t1: _,
+        } => 1,
+    }
+}
+
+pub fn number_of(c: Curve) -> u32
+    ensures { λ r. ⌜ r ≡ numberOf c ⌝ }
+{
+    match c {
+        Curve::Span {
+            number,
+            t0: _,
+            t1: _,
+        } => number,
+        Curve::Seam {
+            surface,
+            p: _,
+            q: _,
+            t0: _,
+            t1: _,
+        } => surface,
+    }
+}
+
+// The floats of a curve, in a row of floats that begins at cell j.
+pub fn put_curve(floats: &mut [f64], j: usize, c: Curve)
+    requires { ⌜ j + 6 ≤ length (now floats) ⌝ }
+    ensures { λ _. ⌜ now (floats .exit) ≡ sets (now (floats .entry)) (j + curveFirst c) (curveCells c) ⌝ }
+{
+    match c {
+        Curve::Span { number: _, t0, t1 } => {
+            floats[j + 4] = t0;
+            floats[j + 5] = t1;
+        }
+        Curve::Seam {
+            surface: _,
+            p,
+            q,
+            t0,
+            t1,
+        } => {
+            floats[j] = p.u;
+            floats[j + 1] = p.v;
+            floats[j + 2] = q.u;
+            floats[j + 3] = q.v;
+            floats[j + 4] = t0;
+            floats[j + 5] = t1;
+        }
+    }
+}
+
+// The edge e is written to row i.
+pub fn put_edge(numbers: &mut [u32], floats: &mut [f64], i: usize, e: Edge)
+    requires { ⌜ (i * 4 + 4 ≤ length (now numbers)) × (i * 6 + 6 ≤ length (now floats)) ⌝ }
+    ensures { λ _. ⌜ now (numbers .exit) ≡ put edgeNumbers (now (numbers .entry)) i e ⌝ }
+    ensures { λ _. ⌜ now (floats .exit) ≡ put edgeFloats (now (floats .entry)) i e ⌝ }
+{
+    let a = i * 4;
+    let curve = e.curve;
+    numbers[a] = e.front;
+    numbers[a + 1] = e.back;
+    numbers[a + 2] = kind_of(curve);
+    numbers[a + 3] = number_of(curve);
+    put_curve(floats, i * 6, curve);
+}
+
+fn put_vertex_numbers(numbers: &mut [u32], i: usize, v: Vertex)
+    requires { ⌜ i * 3 + 3 ≤ length (now numbers) ⌝ }
+    ensures { λ _. ⌜ now (numbers .exit) ≡ put vertexNumbers (now (numbers .entry)) i v ⌝ }
+{
+    let a = i * 3;
+    match v {
+        Vertex::Given { x: _, y: _, z: _ } => {
+            numbers[a] = 0;
+        }
+        Vertex::Pending { curve, t: _ } => {
+            numbers[a] = 1;
+            numbers[a + 1] = kind_of(curve);
+            numbers[a + 2] = number_of(curve);
+        }
+    }
+}
+
+fn put_vertex_floats(floats: &mut [f64], i: usize, v: Vertex)
+    requires { ⌜ i * 7 + 7 ≤ length (now floats) ⌝ }
+    ensures { λ _. ⌜ now (floats .exit) ≡ put vertexFloats (now (floats .entry)) i v ⌝ }
+{
+    let b = i * 7;
+    match v {
+        Vertex::Given { x, y, z } => {
+            floats[b] = x;
+            floats[b + 1] = y;
+            floats[b + 2] = z;
+        }
+        Vertex::Pending { curve, t } => {
+            put_curve(floats, b, curve);
+            floats[b + 6] = t;
+        }
+    }
+}
+
+// The vertex v is written to row i.
+pub fn put_vertex(numbers: &mut [u32], floats: &mut [f64], i: usize, v: Vertex)
+    requires { ⌜ (i * 3 + 3 ≤ length (now numbers)) × (i * 7 + 7 ≤ length (now floats)) ⌝ }
+    ensures { λ _. ⌜ now (numbers .exit) ≡ put vertexNumbers (now (numbers .entry)) i v ⌝ }
+    ensures { λ _. ⌜ now (floats .exit) ≡ put vertexFloats (now (floats .entry)) i v ⌝ }
+{
+    put_vertex_numbers(numbers, i, v);
+    put_vertex_floats(floats, i, v);
+}
+
+// ---- runs of numbers
+
+// The first n numbers of `from` are written over the first n of `to`.
+pub fn copy(from: &[u32], n: usize, to: &mut [u32])
+    requires { ⌜ (n ≤ length (now from)) × (n ≤ length (now to)) ⌝ }
+    ensures { λ _. ⌜ now (to .exit) ≡ take n (now (from .entry)) ++ drop n (now (to .entry)) ⌝ }
+{
+    let mut i: usize = 0;
+    while i < n {
+        to[i] = from[i];
+        i += 1;
+    }
+}
