@@ -1,1 +1,3 @@
 pub mod Lowest
+pub mod Accepted
+pub mod Small

@@ -63,9 +63,17 @@ storeShell s r =
 unfoldable pub countsOf : Shell → Counts
 countsOf r = record { vertices = length (r .vertices); edges = length (r .edges); uses = length (usesOf (r .wires)) }
 
--- "Bounds: 4,096 vertices, 4,096 edges, .. 1,024 uses out", and every lent buffer has a place for each cell of the result
+-- n rows are within the bound of 4,096, and a place is lent for each of their cells
+unfoldable pub verticesFit : List ℕ → List Float → ℕ → Bool
+verticesFit ns fs n = leb n 4096 && (leb (n * 3) (length ns) && leb (n * 7) (length fs))
+
+unfoldable pub edgesFit : List ℕ → List Float → ℕ → Bool
+edgesFit ns fs n = leb n 4096 && (leb (n * 4) (length ns) && leb (n * 6) (length fs))
+
+-- "1,024 uses out"
+unfoldable pub usesFit : List ℕ → ℕ → Bool
+usesFit us n = leb n 1024 && leb n (length us)
+
+-- no bound on a count is passed by the result, and no lent buffer is too short for it (cause 6)
 unfoldable pub hasRoom : Slices → Counts → Bool
-hasRoom s c =
-    leb (c .vertices) 4096 && leb (c .vertices * 3) (length (s .vn)) && leb (c .vertices * 7) (length (s .vf))
-    && leb (c .edges) 4096 && leb (c .edges * 4) (length (s .en)) && leb (c .edges * 6) (length (s .ef))
-    && leb (c .uses) 1024 && leb (c .uses) (length (s .us))
+hasRoom s c = verticesFit (s .vn) (s .vf) (c .vertices) && edgesFit (s .en) (s .ef) (c .edges) && usesFit (s .us) (c .uses)

@@ -7,6 +7,7 @@ ghost use lib.Seq.{sets};
 ghost use Rattle.compress.specs.Records.{frontOf, backOf, kindOf, numberOf};
 ghost use Rattle.compress.specs.Refusals.{refusalNumber, refusalOf};
 ghost use Rattle.compress.specs.Layout.{put};
+ghost use Rattle.compress.specs.Shell.{verticesFit, edgesFit, usesFit};
 ghost use Rattle.compress.specs.Rows.{curveOf, edgeOf, edgeAt, vertexOf, vertexAt, curveFirst, curveCells, edgeNumbers, edgeFloats, vertexNumbers, vertexFloats};
 
 // A point of a surface's parameter plane.
@@ -345,6 +346,41 @@ pub fn put_vertex(numbers: &mut [u32], floats: &mut [f64], i: usize, v: Vertex)
 {
     put_vertex_numbers(numbers, i, v);
     put_vertex_floats(floats, i, v);
+}
+
+// ---- room for a result
+
+// n vertices are within their bound, and a place is lent for each.
+pub fn vertices_fit(numbers: &[u32], floats: &[f64], n: usize) -> bool
+    ensures { λ r. ⌜ r ≡ verticesFit (now (numbers .entry)) (now (floats .entry)) n ⌝ }
+{
+    if n > 4096 {
+        return false;
+    }
+    let a = n * 3 <= numbers.len();
+    let b = n * 7 <= floats.len();
+    a & b
+}
+
+// n edges are within their bound, and a place is lent for each.
+pub fn edges_fit(numbers: &[u32], floats: &[f64], n: usize) -> bool
+    ensures { λ r. ⌜ r ≡ edgesFit (now (numbers .entry)) (now (floats .entry)) n ⌝ }
+{
+    if n > 4096 {
+        return false;
+    }
+    let a = n * 4 <= numbers.len();
+    let b = n * 6 <= floats.len();
+    a & b
+}
+
+// n uses are within their bound, and a place is lent for each.
+pub fn uses_fit(uses: &[u32], n: usize) -> bool
+    ensures { λ r. ⌜ r ≡ usesFit (now (uses .entry)) n ⌝ }
+{
+    let a = n <= 1024;
+    let b = n <= uses.len();
+    a & b
 }
 
 // ---- runs of numbers

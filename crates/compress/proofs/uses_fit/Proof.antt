@@ -1,0 +1,12 @@
+-- `compress::uses_fit` meets its contract. Assumes nothing.
+use mathlib.Core.Path.{refl}
+use Rattle.compress.specs.Shell.{usesFit}
+use Rattle.compress.proofs.uses_fit.Statement.{statement}
+use Rattle.compress.proofs.uses_fit.Tie as tie
+
+returns : tie.Need-returns
+unfolding usesFit
+returns c = refl
+
+pub uses-fit-spec : {M : Type 1} → statement M
+uses-fit-spec = tie.close (tie.spec returns)

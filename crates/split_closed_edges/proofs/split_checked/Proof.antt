@@ -1,0 +1,173 @@
+-- `split_closed_edges::split_checked` meets its contract. Assumes nothing.
+use mathlib.Core.Path.{sym}
+use native.Mathlib.Omega.{arith}
+use lib.Seq.{length-take-le}
+use borrow.Author.Needs.{needs}
+use Rattle.compress.proofs.Room.{uses-room}
+use Rattle.split_closed_edges.proofs.Outcome.{accepted, replaceable, worked, small, cuts-le, roomy, addable, outcome-full, outcome-done}
+use Rattle.split_closed_edges.proofs.split_checked.Statement.{statement}
+use Rattle.split_closed_edges.proofs.split_checked.Tie as tie
+
+slice-aggregate-mark-closed : tie.Need-slice-aggregate-mark-closed
+slice-aggregate-mark-closed c = search needs
+
+mark-closed-requires : tie.Need-mark-closed-requires
+mark-closed-requires c κs =
+    let A = accepted _ _ _ _ _ _ _ _ _ (c .before .before .before .before .before .before .before .before .pre) in
+    (A .edges .below, A .edges .numbers, A .edges .below)
+
+array-share-prefix-added : tie.Need-array-share-prefix-added
+array-share-prefix-added c =
+    let A = accepted _ _ _ _ _ _ _ _ _ (c .before .before .before .before .before .before .before .before .before .before .before .before .pre) in
+    omega (arith, A .edges .below, c .before .before .before .mark-closed .kept .1 .1 .0)
+
+slice-aggregate-replace-wires : tie.Need-slice-aggregate-replace-wires
+slice-aggregate-replace-wires c =
+    let A = accepted _ _ _ _ _ _ _ _ _ (c .before .before .before .before .before .before .before .before .before .before .before .before .before .pre) in
+    sym (length-take-le _ _ (omega (arith, A .edges .below, c .before .before .before .before .mark-closed .kept .1 .1 .0)))
+
+slice-aggregate-replace-wires-2 : tie.Need-slice-aggregate-replace-wires-2
+slice-aggregate-replace-wires-2 c = search needs
+
+slice-aggregate-replace-wires-3 : tie.Need-slice-aggregate-replace-wires-3
+slice-aggregate-replace-wires-3 c = search needs
+
+replace-wires-requires : tie.Need-replace-wires-requires
+replace-wires-requires c κs = replaceable _ _ _ _ _ _ _ _ _ (c .before .before .before .before .before .before .before .before .before .before .before .before .before .before .before .pre) _ _ _ _ (c .before .before .before .before .before .before .mark-closed .ensures (c .before .before .before .before .before .before .before .before .before .before .before .before .before .before .before .args .edge-floats .now)) (omega arith) (omega arith)
+
+add-vertices-fit : tie.Need-add-vertices-fit
+add-vertices-fit c =
+    let W = worked _ _ _ _ _ _ _ _ _ (c .before .before .before .before .before .before .before .before .before .before .before .before .before .before .before .before .before .before .before .before .pre) _ _ _ _ _ (c .before .before .before .before .before .before .before .before .before .before .before .mark-closed .ensures (c .before .before .before .before .before .before .before .before .before .before .before .before .before .before .before .before .before .before .before .before .args .edge-floats .now)) (c .before .before .before .before .replace-wires .ensures) in
+    omega (arith, cuts-le _ _ _ _ _ _ _ _ _ _ _ _ _ W, small _ _ _ _ _ _ _ _ _ _ _ _ _ W)
+
+vertices-fit-requires : tie.Need-vertices-fit-requires
+vertices-fit-requires c κs = search needs
+
+add-edges-fit : tie.Need-add-edges-fit
+add-edges-fit c =
+    let W = worked _ _ _ _ _ _ _ _ _ (c .before .before .before .before .before .before .before .before .before .before .before .before .before .before .before .before .before .before .before .before .before .before .before .pre) _ _ _ _ _ (c .before .before .before .before .before .before .before .before .before .before .before .before .before .before .mark-closed .ensures (c .before .before .before .before .before .before .before .before .before .before .before .before .before .before .before .before .before .before .before .before .before .before .before .args .edge-floats .now)) (c .before .before .before .before .before .before .before .replace-wires .ensures) in
+    omega (arith, cuts-le _ _ _ _ _ _ _ _ _ _ _ _ _ W, small _ _ _ _ _ _ _ _ _ _ _ _ _ W)
+
+edges-fit-requires : tie.Need-edges-fit-requires
+edges-fit-requires c κs = search needs
+
+uses-fit-requires : tie.Need-uses-fit-requires
+uses-fit-requires c κs = search needs
+
+add-edges-requires : tie.Need-add-edges-requires
+add-edges-requires c κs =
+    let W = worked _ _ _ _ _ _ _ _ _ (c .before .before .before .before .before .before .before .before .before .before .before .before .before .before .before .before .before .before .before .before .before .before .before .before .before .before .before .before .before .before .before .pre) _ _ _ _ _ (c .before .before .before .before .before .before .before .before .before .before .before .before .before .before .before .before .before .before .before .before .before .before .mark-closed .ensures (c .before .before .before .before .before .before .before .before .before .before .before .before .before .before .before .before .before .before .before .before .before .before .before .before .before .before .before .before .before .before .before .args .edge-floats .now)) (c .before .before .before .before .before .before .before .before .before .before .before .before .before .before .before .replace-wires .ensures) in
+    addable _ _ _ _ _ _ _ _ _ _ _ _ _ W (roomy _ _ _ _ _ _ _ _ _ _ _ _ _ W _ _ _ (c .before .before .before .before .before .before .before .before .before .before .vertices-fit .ensures) (c .before .before .before .before .before .before .before .edges-fit .ensures) (c .before .before .before .before .before .uses-fit .ensures) (c .before .before .before .before .if1 .taken))
+
+slice-aggregate-copy : tie.Need-slice-aggregate-copy
+slice-aggregate-copy c = search needs
+
+copy-requires : tie.Need-copy-requires
+copy-requires c κs =
+    let W = worked _ _ _ _ _ _ _ _ _ (c .before .before .before .before .before .before .before .before .before .before .before .before .before .before .before .before .before .before .before .before .before .before .before .before .before .before .before .before .before .before .before .before .before .before .before .before .before .before .before .before .before .before .pre) _ _ _ _ _ (c .before .before .before .before .before .before .before .before .before .before .before .before .before .before .before .before .before .before .before .before .before .before .before .before .before .before .before .before .before .before .before .before .before .mark-closed .ensures (c .before .before .before .before .before .before .before .before .before .before .before .before .before .before .before .before .before .before .before .before .before .before .before .before .before .before .before .before .before .before .before .before .before .before .before .before .before .before .before .before .before .before .args .edge-floats .now)) (c .before .before .before .before .before .before .before .before .before .before .before .before .before .before .before .before .before .before .before .before .before .before .before .before .before .before .replace-wires .ensures) in
+    let R = roomy _ _ _ _ _ _ _ _ _ _ _ _ _ W _ _ _ (c .before .before .before .before .before .before .before .before .before .before .before .before .before .before .before .before .before .before .before .before .before .vertices-fit .ensures) (c .before .before .before .before .before .before .before .before .before .before .before .before .before .before .before .before .before .before .edges-fit .ensures) (c .before .before .before .before .before .before .before .before .before .before .before .before .before .before .before .before .uses-fit .ensures) (c .before .before .before .before .before .before .before .before .before .before .before .before .before .before .before .if1 .taken) in
+    let u = uses-room _ _ (R .uses) in
+    (omega (arith, u .0, c .before .before .before .before .before .before .before .before .before .before .before .before .before .before .before .before .before .before .before .before .before .before .before .before .before .before .replace-wires .kept .1 .1 .1 .1 .0), u .1)
+
+slice-aggregate-copy-2 : tie.Need-slice-aggregate-copy-2
+slice-aggregate-copy-2 c = search needs
+
+copy-requires-2 : tie.Need-copy-requires-2
+copy-requires-2 c κs =
+    let W = worked _ _ _ _ _ _ _ _ _ (c .before .before .before .before .before .before .before .before .before .before .before .before .before .before .before .before .before .before .before .before .before .before .before .before .before .before .before .before .before .before .before .before .before .before .before .before .before .before .before .before .before .before .before .before .before .before .before .pre) _ _ _ _ _ (c .before .before .before .before .before .before .before .before .before .before .before .before .before .before .before .before .before .before .before .before .before .before .before .before .before .before .before .before .before .before .before .before .before .before .before .before .before .before .mark-closed .ensures (c .before .before .before .before .before .before .before .before .before .before .before .before .before .before .before .before .before .before .before .before .before .before .before .before .before .before .before .before .before .before .before .before .before .before .before .before .before .before .before .before .before .before .before .before .before .before .before .args .edge-floats .now)) (c .before .before .before .before .before .before .before .before .before .before .before .before .before .before .before .before .before .before .before .before .before .before .before .before .before .before .before .before .before .before .before .replace-wires .ensures) in
+    let s = small _ _ _ _ _ _ _ _ _ _ _ _ _ W in
+    (omega (arith, s .2, c .before .before .before .before .before .before .before .before .before .before .before .before .before .before .before .before .before .before .before .before .before .before .before .before .before .before .before .before .before .before .before .replace-wires .kept .1 .1 .1 .1 .1 .0), s .3)
+
+add-t62 : tie.Need-add-t62
+add-t62 c =
+    let W = worked _ _ _ _ _ _ _ _ _ (c .before .before .before .before .before .before .before .before .before .before .before .before .before .before .before .before .before .before .before .before .before .before .before .before .before .before .before .before .before .before .before .before .before .before .before .before .before .before .before .before .before .before .before .before .before .before .before .before .before .before .pre) _ _ _ _ _ (c .before .before .before .before .before .before .before .before .before .before .before .before .before .before .before .before .before .before .before .before .before .before .before .before .before .before .before .before .before .before .before .before .before .before .before .before .before .before .before .before .before .mark-closed .ensures (c .before .before .before .before .before .before .before .before .before .before .before .before .before .before .before .before .before .before .before .before .before .before .before .before .before .before .before .before .before .before .before .before .before .before .before .before .before .before .before .before .before .before .before .before .before .before .before .before .before .before .args .edge-floats .now)) (c .before .before .before .before .before .before .before .before .before .before .before .before .before .before .before .before .before .before .before .before .before .before .before .before .before .before .before .before .before .before .before .before .before .before .replace-wires .ensures) in
+    omega (arith, cuts-le _ _ _ _ _ _ _ _ _ _ _ _ _ W, small _ _ _ _ _ _ _ _ _ _ _ _ _ W)
+
+add-t63 : tie.Need-add-t63
+add-t63 c =
+    let W = worked _ _ _ _ _ _ _ _ _ (c .before .before .before .before .before .before .before .before .before .before .before .before .before .before .before .before .before .before .before .before .before .before .before .before .before .before .before .before .before .before .before .before .before .before .before .before .before .before .before .before .before .before .before .before .before .before .before .before .before .before .pre) _ _ _ _ _ (c .before .before .before .before .before .before .before .before .before .before .before .before .before .before .before .before .before .before .before .before .before .before .before .before .before .before .before .before .before .before .before .before .before .before .before .before .before .before .before .before .before .mark-closed .ensures (c .before .before .before .before .before .before .before .before .before .before .before .before .before .before .before .before .before .before .before .before .before .before .before .before .before .before .before .before .before .before .before .before .before .before .before .before .before .before .before .before .before .before .before .before .before .before .before .before .before .before .args .edge-floats .now)) (c .before .before .before .before .before .before .before .before .before .before .before .before .before .before .before .before .before .before .before .before .before .before .before .before .before .before .before .before .before .before .before .before .before .before .replace-wires .ensures) in
+    omega (arith, cuts-le _ _ _ _ _ _ _ _ _ _ _ _ _ W, small _ _ _ _ _ _ _ _ _ _ _ _ _ W)
+
+same-length : tie.Need-same-length
+same-length c = search needs
+
+same-length-2 : tie.Need-same-length-2
+same-length-2 c = search needs
+
+same-length-3 : tie.Need-same-length-3
+same-length-3 c = search needs
+
+same-length-4 : tie.Need-same-length-4
+same-length-4 c = search needs
+
+same-length-5 : tie.Need-same-length-5
+same-length-5 c = search needs
+
+same-length-6 : tie.Need-same-length-6
+same-length-6 c = search needs
+
+returns : tie.Need-returns
+returns c =
+    let W = worked _ _ _ _ _ _ _ _ _ (c .before .before .before .before .before .before .before .before .before .before .before .before .before .before .before .before .before .before .before .before .before .before .before .before .before .before .before .before .before .before .before .before .before .before .before .before .before .before .before .before .before .before .before .before .before .before .before .before .before .before .pre) _ _ _ _ _ (c .before .before .before .before .before .before .before .before .before .before .before .before .before .before .before .before .before .before .before .before .before .before .before .before .before .before .before .before .before .before .before .before .before .before .before .before .before .before .before .before .before .mark-closed .ensures (c .before .before .before .before .before .before .before .before .before .before .before .before .before .before .before .before .before .before .before .before .before .before .before .before .before .before .before .before .before .before .before .before .before .before .before .before .before .before .before .before .before .before .before .before .before .before .before .before .before .before .args .edge-floats .now)) (c .before .before .before .before .before .before .before .before .before .before .before .before .before .before .before .before .before .before .before .before .before .before .before .before .before .before .before .before .before .before .before .before .before .before .replace-wires .ensures) in
+    outcome-done _ _ _ _ _ _ _ _ _ _ _ _ _ W _ _ _ _ _ _ (roomy _ _ _ _ _ _ _ _ _ _ _ _ _ W _ _ _ (c .before .before .before .before .before .before .before .before .before .before .before .before .before .before .before .before .before .before .before .before .before .before .before .before .before .before .before .before .before .vertices-fit .ensures) (c .before .before .before .before .before .before .before .before .before .before .before .before .before .before .before .before .before .before .before .before .before .before .before .before .before .before .edges-fit .ensures) (c .before .before .before .before .before .before .before .before .before .before .before .before .before .before .before .before .before .before .before .before .before .before .before .before .uses-fit .ensures) (c .before .before .before .before .before .before .before .before .before .before .before .before .before .before .before .before .before .before .before .before .before .before .before .if1 .taken)) (c .before .before .before .before .before .before .before .before .before .before .before .before .before .before .before .before .before .before .before .before .before .before .before .before .before .before .before .before .before .before .before .before .before .before .before .before .before .before .before .before .before .before .before .before .before .before .before .before .before .before .pre) (c .before .before .before .before .before .before .before .before .before .before .before .before .before .before .before .before .before .before .add-edges .ensures) (c .before .before .before .before .before .before .before .copy .ensures) (c .before .before .copy2 .ensures)
+
+same-length-7 : tie.Need-same-length-7
+same-length-7 c = search needs
+
+same-length-8 : tie.Need-same-length-8
+same-length-8 c = search needs
+
+same-length-9 : tie.Need-same-length-9
+same-length-9 c = search needs
+
+same-length-10 : tie.Need-same-length-10
+same-length-10 c = search needs
+
+same-length-11 : tie.Need-same-length-11
+same-length-11 c = search needs
+
+same-length-12 : tie.Need-same-length-12
+same-length-12 c = search needs
+
+returns-2 : tie.Need-returns-2
+returns-2 c =
+    let W = worked _ _ _ _ _ _ _ _ _ (c .before .before .before .before .before .before .before .before .before .before .before .before .before .before .before .before .before .before .before .before .before .before .before .before .before .before .before .pre) _ _ _ _ _ (c .before .before .before .before .before .before .before .before .before .before .before .before .before .before .before .before .before .before .mark-closed .ensures (c .before .before .before .before .before .before .before .before .before .before .before .before .before .before .before .before .before .before .before .before .before .before .before .before .before .before .before .args .edge-floats .now)) (c .before .before .before .before .before .before .before .before .before .before .before .replace-wires .ensures) in
+    outcome-full _ _ _ _ _ _ _ _ _ _ _ _ _ W _ _ _ (c .before .before .before .before .before .before .vertices-fit .ensures) (c .before .before .before .edges-fit .ensures) (c .before .uses-fit .ensures) (c .if1 .left) (c .before .before .before .before .before .before .before .before .before .before .before .before .before .before .before .before .before .before .before .before .before .before .before .before .before .before .before .pre)
+
+pub split-checked-spec : {M : Type 1} → statement M
+split-checked-spec =
+    tie.close
+    (tie.spec
+    slice-aggregate-mark-closed
+    mark-closed-requires
+    array-share-prefix-added
+    slice-aggregate-replace-wires
+    slice-aggregate-replace-wires-2
+    slice-aggregate-replace-wires-3
+    replace-wires-requires
+    add-vertices-fit
+    vertices-fit-requires
+    add-edges-fit
+    edges-fit-requires
+    uses-fit-requires
+    add-edges-requires
+    slice-aggregate-copy
+    copy-requires
+    slice-aggregate-copy-2
+    copy-requires-2
+    add-t62
+    add-t63
+    same-length
+    same-length-2
+    same-length-3
+    same-length-4
+    same-length-5
+    same-length-6
+    returns
+    same-length-7
+    same-length-8
+    same-length-9
+    same-length-10
+    same-length-11
+    same-length-12
+    returns-2)

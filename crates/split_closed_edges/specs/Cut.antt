@@ -1,0 +1,36 @@
+-- One closed edge cut at the middle of its curve. Definitions only.
+use Prim.Native.Nat.{ℕ}
+use lib.Ieee.{Float}
+use Rattle.floats.specs.Exact.{midpointOf}
+use Rattle.compress.specs.declared.Curve.{Curve}
+use Rattle.compress.specs.declared.Curve.the-variants.{Span, Seam}
+use Rattle.compress.specs.declared.Edge.{Edge}
+use Rattle.compress.specs.declared.Vertex.{Vertex}
+use Rattle.compress.specs.declared.Vertex.the-variants.{Given, Pending}
+use Rattle.compress.specs.Records.{firstOf, lastOf}
+use Rattle.split_closed_edges.specs.declared.Halves.{Halves}
+
+-- "An edge with equal ends is cut at (t0 + t1) / 2."
+unfoldable pub middleOf : Curve → Float
+middleOf c = midpointOf (firstOf c) (lastOf c)
+
+-- "The old edge keeps t0 to the middle; the new one runs from the middle to t1."
+abbrev pub upTo : Curve → Float → Curve
+upTo (Span n a b) t = Span n a t
+upTo (Seam n p q a b) t = Seam n p q a t
+
+abbrev pub fromOn : Curve → Float → Curve
+fromOn (Span n a b) t = Span n t b
+fromOn (Seam n p q a b) t = Seam n p q t b
+
+-- `cut_edge`: the edge (a, b) cut at t by the vertex n is (a, n), and (n, b) is new
+unfoldable pub halvesOf : Edge → Float → ℕ → Halves
+halvesOf e t n =
+    record {
+      old = record { front = e .front; back = n; curve = upTo (e .curve) t };
+      new = record { front = n; back = e .back; curve = fromOn (e .curve) t };
+    }
+
+-- the new vertex: "pending: the curve as it was before the cut, with the parameter"
+unfoldable pub pendingOf : Edge → Vertex
+pendingOf e = Pending (e .curve) (middleOf (e .curve))

@@ -1,0 +1,5 @@
+pub mod Cut
+pub mod Pass
+pub mod Steps
+pub mod Parts
+pub mod Contract
