@@ -1,0 +1,94 @@
+-- `healing::kaugrenna_split_closed_edges` meets its contract. Assumes nothing.
+use Prim.Native.Nat.{_<_}
+use mir.Syntax.{w32}
+use mir.Facts.{toZ-pos}
+use native.Mathlib.Omega.{arith}
+use borrow.Author.Needs.{needs}
+use Rattle.healing.proofs.Told.{number-small, host-done, host-refused}
+use Rattle.healing.proofs.kaugrenna_split_closed_edges.Statement.{statement}
+use Rattle.healing.proofs.kaugrenna_split_closed_edges.Tie as tie
+
+split-closed-edges-requires : tie.Need-split-closed-edges-requires
+split-closed-edges-requires c κs = search needs
+
+enum-known-answer : tie.Need-enum-known-answer
+enum-known-answer c = search needs
+
+enum-known-answer-2 : tie.Need-enum-known-answer-2
+enum-known-answer-2 c = search needs
+
+refusal-number-requires : tie.Need-refusal-number-requires
+refusal-number-requires c κs = search needs
+
+cast-result : tie.Need-cast-result
+cast-result c =
+    record { sfits = omega (arith, c .refusal-number .ensures, number-small (c .before .before .answer2 .given .0 .0)) }
+
+same-length : tie.Need-same-length
+same-length c = search needs
+
+same-length-2 : tie.Need-same-length-2
+same-length-2 c = search needs
+
+same-length-3 : tie.Need-same-length-3
+same-length-3 c = search needs
+
+same-length-4 : tie.Need-same-length-4
+same-length-4 c = search needs
+
+same-length-5 : tie.Need-same-length-5
+same-length-5 c = search needs
+
+same-length-6 : tie.Need-same-length-6
+same-length-6 c = search needs
+
+returns : tie.Need-returns
+returns c = host-done _ _ _ _ (c .before .before .before .before .before .before .before .before .before .before .before .before .before .before .before .split-closed-edges .ensures) _ _ _ (c .before .answer .given .1)
+
+same-length-7 : tie.Need-same-length-7
+same-length-7 c = search needs
+
+same-length-8 : tie.Need-same-length-8
+same-length-8 c = search needs
+
+same-length-9 : tie.Need-same-length-9
+same-length-9 c = search needs
+
+same-length-10 : tie.Need-same-length-10
+same-length-10 c = search needs
+
+same-length-11 : tie.Need-same-length-11
+same-length-11 c = search needs
+
+same-length-12 : tie.Need-same-length-12
+same-length-12 c = search needs
+
+returns-2 : tie.Need-returns-2
+returns-2 c =
+    let small : c .refusal-number .result < 2147483648 = omega (arith, c .refusal-number .ensures, number-small (c .before .before .answer2 .given .0 .0)) in
+    rw (toZ-pos w32 {n = c .refusal-number .result} small)
+    (host-refused _ _ _ _ (c .before .before .before .before .before .before .before .before .before .before .before .before .before .before .before .before .split-closed-edges .ensures) _ _ (c .before .before .answer2 .given .1) (c .refusal-number .ensures))
+
+pub kaugrenna-split-closed-edges-spec : {M : Type 1} → statement M
+kaugrenna-split-closed-edges-spec =
+    tie.close
+    (tie.spec
+    split-closed-edges-requires
+    enum-known-answer
+    enum-known-answer-2
+    refusal-number-requires
+    cast-result
+    same-length
+    same-length-2
+    same-length-3
+    same-length-4
+    same-length-5
+    same-length-6
+    returns
+    same-length-7
+    same-length-8
+    same-length-9
+    same-length-10
+    same-length-11
+    same-length-12
+    returns-2)
