@@ -174,10 +174,10 @@ fn add_edge(
     let e = compress::edge_at(edge_numbers, edge_floats, i);
     if e.front == e.back {
         let c = e.curve;
-        let v = pending(e);
         let h = cut_held(e, middle(c), n as u32);
         let old = h.old;
         let new = h.new;
+        let v = pending(e);
         compress::put_vertex(vertex_numbers, vertex_floats, n, v);
         compress::put_edge(edge_numbers, edge_floats, i, old);
         compress::put_edge(edge_numbers, edge_floats, m, new);
@@ -358,6 +358,21 @@ fn input_cause(
     checks::lower(v, checks::lower(e, w))
 }
 
+// The new counts where there is room for the result, else 6.
+fn answer(room: bool, vertices: usize, edges: usize, uses: usize) -> Split
+    ensures { λ r. ⌜ r ≡ pick room (Split.Done vertices edges uses) (Split.Refused Refusal.NoRoom) ⌝ }
+{
+    if room {
+        Split::Done {
+            vertices,
+            edges,
+            uses,
+        }
+    } else {
+        Split::Refused(Refusal::NoRoom)
+    }
+}
+
 // The pass over a shell that has none of the causes 1 to 5. Everything is worked out before anything lent is written.
 fn split_checked(
     vertex_numbers: &mut [u32],
@@ -399,13 +414,9 @@ fn split_checked(
         );
         compress::copy(&out, n, uses);
         compress::copy(&out_lengths, wires, lengths);
-        return Split::Done {
-            vertices: vertices + cuts,
-            edges: edges + cuts,
-            uses: n,
-        };
+        return answer(true, vertices + cuts, edges + cuts, n);
     }
-    Split::Refused(Refusal::NoRoom)
+    answer(false, vertices, edges, n)
 }
 
 // `split_closed_edges`: every closed edge of the lent tables is cut, and every wire mended, in place.

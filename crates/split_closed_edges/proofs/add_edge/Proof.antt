@@ -2,25 +2,25 @@
 use mathlib.Core.Path.{sym, refl}
 use native.Mathlib.Omega.{arith}
 use borrow.Author.Needs.{needs}
-use Rattle.split_closed_edges.proofs.Edges.{pending-put, halves-put, closed-yes, closed-no}
 use Rattle.compress.specs.Rows.{edgeNumbers, edgeFloats, vertexNumbers, vertexFloats}
+use Rattle.split_closed_edges.proofs.Edges.{closed-yes, closed-no, pending-put, halves-put}
 use Rattle.split_closed_edges.proofs.add_edge.Statement.{statement}
 use Rattle.split_closed_edges.proofs.add_edge.Tie as tie
 
 edge-at-requires : tie.Need-edge-at-requires
 edge-at-requires c κs = search needs
 
-pending-requires : tie.Need-pending-requires
-pending-requires c κs = search needs
-
 middle-requires : tie.Need-middle-requires
 middle-requires c κs = search needs
 
 cast-cut-held : tie.Need-cast-cut-held
-cast-cut-held c = omega (arith, c .before .before .before .before .before .before .before .before .before .before .before .pre .1 (closed-yes _ _ (c .before .before .before .before .edge-at .ensures) (c .before .before .if1 .taken)) .below)
+cast-cut-held c = omega (arith, c .before .before .before .before .before .before .before .before .before .before .pre .1 (closed-yes _ _ (c .before .before .before .edge-at .ensures) (c .before .if1 .taken)) .below)
 
 cut-held-requires : tie.Need-cut-held-requires
 cut-held-requires c κs = search needs
+
+pending-requires : tie.Need-pending-requires
+pending-requires c κs = search needs
 
 put-vertex-requires : tie.Need-put-vertex-requires
 put-vertex-requires c κs =
@@ -51,9 +51,9 @@ returns : tie.Need-returns
 returns c =
     let a = c .before .before .before .before .before .before .before .before .before .before .before .before .before .before .before .before .before .before .before .before .before .before .before .before .before .before .before .before .before .before .before .before .before .before .before .args in
     let q = c .before .before .before .before .before .before .before .before .before .before .before .before .before .before .before .before .before .before .before .before .before .before .before .before .before .before .before .before .edge-at .ensures in
-    let v = c .before .before .before .before .before .before .before .before .before .before .before .before .before .before .before .before .before .before .before .before .before .before .before .before .before .pending in
-    let h = c .before .before .before .before .before .before .before .before .before .before .before .before .before .before .before .before .before .before .before .before .before .before .before .cut-held in
-    let m = c .before .before .before .before .before .before .before .before .before .before .before .before .before .before .before .before .before .before .before .before .before .before .before .before .middle .ensures in
+    let v = c .before .before .before .before .before .before .before .before .before .before .before .before .before .before .before .before .before .before .before .before .before .pending in
+    let h = c .before .before .before .before .before .before .before .before .before .before .before .before .before .before .before .before .before .before .before .before .before .before .before .before .cut-held in
+    let m = c .before .before .before .before .before .before .before .before .before .before .before .before .before .before .before .before .before .before .before .before .before .before .before .before .before .middle .ensures in
     let w = c .before .before .before .before .before .before .before .before .before .before .before .before .before .before .before .before .before .before .put-vertex .ensures in
     let f = c .before .before .before .before .before .before .before .before .before .before .before .put-edge .ensures in
     let g = c .before .before .before .before .put-edge2 .ensures in (
@@ -84,10 +84,10 @@ add-edge-spec =
     tie.close
     (tie.spec
     edge-at-requires
-    pending-requires
     middle-requires
     cast-cut-held
     cut-held-requires
+    pending-requires
     put-vertex-requires
     put-edge-requires
     put-edge-requires-2

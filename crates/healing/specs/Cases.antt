@@ -1,0 +1,83 @@
+-- The worked cases of document 01, K1 to K3 so far, and one claim: each holds of the written definitions.
+use mathlib.Core.Path.{_≡_, refl}
+use mathlib.Core.List.{List, [], _∷_}
+use Prim.Native.Nat.{ℕ}
+use lib.Ieee.{Float, binary64, ofBits, add, div, round}
+use Rattle.compress.specs.declared.Curve.the-variants.{Span}
+use Rattle.compress.specs.declared.Edge.{Edge}
+use Rattle.compress.specs.declared.Vertex.{Vertex}
+use Rattle.compress.specs.declared.Vertex.the-variants.{Given, Pending}
+use Rattle.compress.specs.Records.{closed}
+use Rattle.compress.specs.Shell.{Shell}
+use Rattle.split_closed_edges.specs.Cut.{middleOf, halvesOf, pendingOf}
+use Rattle.split_closed_edges.specs.Pass.{keptEdges, newEdges, newVertices, addedTo, replaceUse, replaceEdges, replaceWires, splitClosedEdges}
+
+-- a call, what it is given and what it answers
+pub data Case : Type 0 where
+  closed-edges : (given answer : Shell) → Case
+
+-- what a case says of the definitions
+abbrev pub holds : Case → Type 0
+holds (closed-edges given answer) = splitClosedEdges given ≡ answer
+
+abbrev pub allHold : List Case → Type 0
+allHold [] = Unit
+allHold (c ∷ cs) = holds c × allHold cs
+
+-- ---- the numbers and records of the cases
+abbrev pub zero64 : Float
+zero64 = ofBits binary64 0
+
+abbrev pub four64 : Float
+four64 = ofBits binary64 0x4010_0000_0000_0000
+
+abbrev pub eight64 : Float
+eight64 = ofBits binary64 0x4020_0000_0000_0000
+
+-- a use: forward 2 * edge, reversed 2 * edge + 1
+abbrev pub rim : Edge
+rim = record { front = 0; back = 0; curve = Span 7 zero64 eight64 }
+
+abbrev pub rimVertex : Vertex
+rimVertex = Given zero64 zero64 zero64
+
+abbrev pub rimWith : List ℕ → Shell
+rimWith wire = record { vertices = rimVertex ∷ []; edges = rim ∷ []; wires = wire ∷ [] }
+
+-- edge 0 = (0, 1) from 0 to 4, edge 1 = (1, 0) from 4 to 8, vertex 1 pending on span 7 (0 to 8) at 4
+abbrev pub rimCutWith : List ℕ → Shell
+rimCutWith wire =
+    record {
+      vertices = rimVertex ∷ Pending (Span 7 zero64 eight64) four64 ∷ [];
+      edges = record { front = 0; back = 1; curve = Span 7 zero64 four64 } ∷ record { front = 1; back = 0; curve = Span 7 four64 eight64 } ∷ [];
+      wires = wire ∷ [];
+    }
+
+-- ---- the cases
+
+-- "K1: one vertex, edge 0 = (0, 0) with span 7 from 0 to 8, wire 0+. Result: .. wire 0+ 1+."
+abbrev pub k1 : Case
+k1 = closed-edges (rimWith (0 ∷ [])) (rimCutWith (0 ∷ 2 ∷ []))
+
+-- "K2: wire 0- gives 1- 0-."
+abbrev pub k2 : Case
+k2 = closed-edges (rimWith (1 ∷ [])) (rimCutWith (3 ∷ 1 ∷ []))
+
+-- "K3: no edges, nothing changes."
+abbrev pub k3 : Case
+k3 = closed-edges (record { vertices = rimVertex ∷ []; edges = []; wires = [] ∷ [] }) (record { vertices = rimVertex ∷ []; edges = []; wires = [] ∷ [] })
+
+abbrev pub cases : List Case
+cases = k1 ∷ k2 ∷ k3 ∷ []
+
+pub cases-hold : allHold cases
+unfolding add div round ofBits splitClosedEdges keptEdges newEdges newVertices addedTo replaceUse replaceEdges replaceWires middleOf halvesOf pendingOf closed
+cases-hold = (refl, (refl, (refl, tt)))
+
+-- ---- beside document 01's cases: K1's edge with the wire 0+ 0- gives 0+ 1+ 1- 0-
+abbrev pub corners : List Case
+corners = closed-edges (rimWith (0 ∷ 1 ∷ [])) (rimCutWith (0 ∷ 2 ∷ 3 ∷ 1 ∷ [])) ∷ []
+
+pub corners-hold : allHold corners
+unfolding add div round ofBits splitClosedEdges keptEdges newEdges newVertices addedTo replaceUse replaceEdges replaceWires middleOf halvesOf pendingOf closed
+corners-hold = (refl, tt)

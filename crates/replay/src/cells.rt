@@ -1,0 +1,129 @@
+// The buffers of a call: filled from the list, and compared with what stands there.
+ghost use mathlib.Core.Path.{_≡_};
+ghost use lib.Ieee.{binary64, nanBits};
+use crate::words;
+use words::Place;
+
+// A number of 32 bits from the list, and the place past it.
+struct Number {
+    value: u32,
+    place: Place,
+}
+
+// ---- floats
+
+// Is this the bit pattern of a NaN? Without its sign it then lies above that of infinity.
+fn is_nan_pattern(bits: u64) -> bool
+    ensures { λ r. ⌜ r ≡ nanBits binary64 bits ⌝ }
+{
+    bits % 0x8000_0000_0000_0000 > 0x7ff0_0000_0000_0000
+}
+
+// The float of a bit pattern. Every pattern of a NaN gives a NaN of no particular sign or payload.
+fn float_of(bits: u64) -> f64 {
+    if is_nan_pattern(bits) {
+        return 0.0 / 0.0;
+    }
+    f64::from_bits(bits)
+}
+
+// Has x this bit pattern? A NaN has that of any NaN.
+fn has_pattern(x: f64, bits: u64) -> bool {
+    if x == x {
+        return f64::to_bits(x) == bits;
+    }
+    is_nan_pattern(bits)
+}
+
+// ---- numbers
+
+fn wide(n: u32) -> u64 {
+    n as u64
+}
+
+// Reads a number of 32 bits. A word above those is taken as 0, and the list is damaged.
+fn next_number(buf: &mut [u8], p: Place) -> Number {
+    let w = words::next(buf, p);
+    let place = w.place;
+    let n = w.bits;
+    if n <= 0xffff_ffff {
+        return Number {
+            value: n as u32,
+            place,
+        };
+    }
+    Number {
+        value: 0,
+        place: words::damaged(place),
+    }
+}
+
+// ---- buffers
+
+// Fills a buffer of numbers from the list.
+pub fn fill_numbers(buf: &mut [u8], p: Place, cells: &mut [u32]) -> Place {
+    let mut place = p;
+    let mut i = 0;
+    while i < cells.len() {
+        let n = next_number(buf, place);
+        cells[i] = n.value;
+        place = n.place;
+        i += 1;
+    }
+    place
+}
+
+// Fills a buffer of floats from the list.
+pub fn fill_floats(buf: &mut [u8], p: Place, cells: &mut [f64]) -> Place {
+    let mut place = p;
+    let mut i = 0;
+    while i < cells.len() {
+        let w = words::next(buf, place);
+        cells[i] = float_of(w.bits);
+        place = w.place;
+        i += 1;
+    }
+    place
+}
+
+// Compares a buffer of numbers with the list.
+pub fn compare_numbers(buf: &mut [u8], p: Place, cells: &[u32]) -> Place {
+    let mut place = p;
+    let mut i = 0;
+    while i < cells.len() {
+        place = words::compare(buf, place, wide(cells[i]));
+        i += 1;
+    }
+    place
+}
+
+// Reads a word and compares a float with the one that has its bits.
+fn compare_float(buf: &mut [u8], p: Place, x: f64) -> Place {
+    let w = words::next(buf, p);
+    words::same_if(w.place, has_pattern(x, w.bits))
+}
+
+// Compares a buffer of floats with the list.
+pub fn compare_floats(buf: &mut [u8], p: Place, cells: &[f64]) -> Place {
+    let mut place = p;
+    let mut i = 0;
+    while i < cells.len() {
+        place = compare_float(buf, place, cells[i]);
+        i += 1;
+    }
+    place
+}
+
+// ---- a table of rows: its numbers, and then its floats
+
+// Fills the buffers of a table from the list.
+pub fn fill_table(buf: &mut [u8], p: Place, numbers: &mut [u32], floats: &mut [f64]) -> Place {
+    let past = fill_numbers(buf, p, numbers);
+    fill_floats(buf, past, floats)
+}
+
+// Compares the buffers of a table with the list.
+pub fn compare_table(buf: &mut [u8], p: Place, numbers: &[u32], floats: &[f64]) -> Place {
+    let past = compare_numbers(buf, p, numbers);
+    compare_floats(buf, past, floats)
+}

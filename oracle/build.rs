@@ -1,0 +1,47 @@
+//! Looks for the Rust sources and for the library under test, and tells the
+//! crate through `cfg` which of the two are at hand.
+
+use std::env;
+use std::path::{Path, PathBuf};
+
+fn main() {
+    println!("cargo:rustc-check-cfg=cfg(rust_at_hand)");
+    println!("cargo:rustc-check-cfg=cfg(library_at_hand)");
+    println!("cargo:rerun-if-changed=build.rs");
+    let crate_folder = PathBuf::from(env::var_os("CARGO_MANIFEST_DIR").expect("set by cargo"));
+    find_rust(&crate_folder);
+    find_library(&crate_folder);
+}
+
+/// The folder that a variable names, or else the given default.
+fn folder(variable: &str, default: PathBuf) -> PathBuf {
+    println!("cargo:rerun-if-env-changed={variable}");
+    let named = env::var_os(variable).map_or(default, PathBuf::from);
+    named.canonicalize().unwrap_or(named)
+}
+
+/// The two source files of the healing module, to be compiled as they are.
+fn find_rust(crate_folder: &Path) {
+    let sources = folder("KAUGRENNA_RUST", crate_folder.join("../../shared/docs/src"));
+    let healing = sources.join("truck-shapeops/src/healing");
+    let files = ["split_closed_edges.rs", "split_closed_faces.rs"].map(|name| healing.join(name));
+    for file in &files {
+        println!("cargo:rerun-if-changed={}", file.display());
+    }
+    if files.iter().all(|file| file.is_file()) {
+        println!("cargo:rustc-cfg=rust_at_hand");
+        println!("cargo:rustc-env=KAUGRENNA_HEALING={}", healing.display());
+    }
+}
+
+/// The archive that holds the port's exports.
+fn find_library(crate_folder: &Path) {
+    let place = folder("KAUGRENNA_LIB", crate_folder.join("../target/staticlib"));
+    let archive = place.join("libhealing.a");
+    println!("cargo:rerun-if-changed={}", archive.display());
+    if archive.is_file() {
+        println!("cargo:rustc-cfg=library_at_hand");
+        println!("cargo:rustc-link-search=native={}", place.display());
+        println!("cargo:rustc-link-lib=static=healing");
+    }
+}

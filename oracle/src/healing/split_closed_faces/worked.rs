@@ -1,0 +1,162 @@
+//! The specification's worked examples for the second file, asked of the
+//! Rust itself: they show that the shim stands in for the geometry rightly.
+
+use super::*;
+use crate::records::{self, Curve};
+
+/// The edges of K9, and any more.
+fn edges(more: &[(usize, usize)]) -> Vec<Edge<On<Point3>>> {
+    let ends = [(0, 2), (0, 1), (1, 0), (2, 3), (3, 2)];
+    all_edges(&[&ends[..], more].concat())
+}
+
+/// Edges between the given vertices.
+fn all_edges(ends: &[(usize, usize)]) -> Vec<Edge<On<Point3>>> {
+    let span = |number: usize| Curve::Span {
+        number: number as u32,
+        t0: 0.0,
+        t1: 8.0,
+    };
+    let edge = |(number, &vertices)| Edge {
+        vertices,
+        curve: On::from(span(number)),
+    };
+    ends.iter().enumerate().map(edge).collect()
+}
+
+/// The vertices of K9.
+fn vertices() -> Vec<Point3> {
+    [(1.0, 0.0), (-1.0, 0.0), (1.0, 4.0), (-1.0, 4.0)]
+        .map(|(x, z)| Point3::new(x, 0.0, z))
+        .to_vec()
+}
+
+/// A wire from its notation.
+fn wire(notation: &str) -> Wire {
+    let numbers = records::wire(notation);
+    let to_use = |number: u32| EdgeIndex {
+        index: number as usize / 2,
+        orientation: number % 2 == 0,
+    };
+    numbers.into_iter().map(to_use).collect()
+}
+
+/// The answer of the search for a divisor over one wire.
+fn search(notation: &str) -> Option<(usize, usize)> {
+    find_non_simple_wire_divisor(&[wire(notation)], &edges(&[]), &vertices())
+}
+
+/// The split as the Rust does it once the vertices on the divisor are known.
+fn split(face: &[Wire], list: &[usize], edges: &mut Vec<Edge<On<Point3>>>) -> Vec<Wire> {
+    let place = |&v: &usize| (0.0, (v, Point2::new(v as f64, 0.5)));
+    let on_divisor: Vec<_> = list.iter().map(place).collect();
+    let mut marked = duplicated_edges(face.iter().flatten().map(|edge_use| edge_use.index));
+    let surface = Surface { number: 3 };
+    let new = create_new_edges(&on_divisor, &mut Vec::new(), &surface, 0.1).unwrap();
+    let (range, new_uses) = signup_new_edges(edges, new);
+    marked.extend(range);
+    let vemap = create_vemap(edges, face.iter().flatten().copied().chain(new_uses));
+    construct_boundaries(vemap, edges, &marked)
+}
+
+#[test]
+fn k4_and_k5_unwrapping() {
+    assert_eq!(get_mindiff(0.5, 6.0, 4.0), 4.5);
+    assert_eq!(get_mindiff(0.0, 2.0, 4.0), 0.0);
+    assert_eq!(get_mindiff(-0.0, 0.0, 4.0).to_bits(), 0.0f64.to_bits());
+}
+
+#[test]
+fn nearest_copies_come_u_outermost() {
+    let copies: Vec<_> = periodic_iterator(Point2::new(1.0, 2.0), (Some(4.0), None)).collect();
+    let expected = [-7.0, -3.0, 1.0, 5.0, 9.0].map(|u| Point2::new(u, 2.0));
+    assert_eq!(copies, expected);
+    let both = periodic_iterator(Point2::new(0.0, 0.0), (Some(1.0), Some(1.0)));
+    let second = both.skip(1).next();
+    assert_eq!(second, Some(Point2::new(-2.0, -1.0)));
+}
+
+#[test]
+fn k6_k8_and_k9_search() {
+    assert_eq!(search("0+ 1+ 2+"), None);
+    assert_eq!(search("0+ 0- 1+"), None);
+    assert_eq!(search("1+ 2+ 0+ 3+ 4+ 0-"), Some((3, 1)));
+}
+
+#[test]
+#[should_panic(expected = "index out of bounds")]
+fn k7_reads_past_the_end() {
+    search("0+ 1+ 0-");
+}
+
+#[test]
+fn k10_split() {
+    let mut edges = edges(&[]);
+    let wires = split(&[wire("1+ 2+ 0+ 3+ 4+ 0-")], &[3, 1], &mut edges);
+    assert_eq!(wires, [wire("0+ 3+ 5+ 2+"), wire("1+ 5- 4+ 0-")]);
+    let seam = Curve::Seam {
+        surface: 3,
+        p: [3.0, 0.5],
+        q: [1.0, 0.5],
+        t0: 0.0,
+        t1: 1.0,
+    };
+    assert_eq!(edges[5].vertices, (3, 1));
+    assert_eq!(edges[5].curve.curve, seam);
+}
+
+#[test]
+#[should_panic(expected = "unreachable")]
+fn k11_dead_end() {
+    split(&[wire("0+")], &[], &mut all_edges(&[(0, 1)]));
+}
+
+#[test]
+#[should_panic(expected = "something wrong")]
+fn k12_crowd() {
+    let mut edges = all_edges(&[(0, 1), (0, 1), (0, 1), (1, 0), (1, 0), (1, 0)]);
+    split(&[wire("0+ 1+ 2+ 3+ 4+ 5+")], &[], &mut edges);
+}
+
+#[test]
+fn k13_loops_at_one_vertex() {
+    let wires = split(&[wire("0+ 1+ 2+")], &[], &mut all_edges(&[(0, 0); 3]));
+    assert_eq!(wires, [wire("2+"), wire("1+"), wire("0+")]);
+}
+
+#[test]
+fn k15_and_k16_join() {
+    let join = |open: [&str; 2]| {
+        let mut wires = Vec::new();
+        let (new, open) = (vec![wire("0+ 0-")], open.map(wire).to_vec());
+        connect_open_boundaries(&mut wires, new, (0, 2), &edges(&[]), open).map(|()| wires)
+    };
+    let joined = vec![wire("0- 1+ 2+ 0+ 3+ 4+")];
+    assert_eq!(join(["1+ 2+", "3+ 4+"]), Some(joined));
+    assert_eq!(join(["3+ 4+", "1+ 2+"]), None);
+}
+
+#[test]
+fn k17_to_k19_kind_of_wire() {
+    let kind = |apart: f64, area: f64| {
+        let points = [0.0, area, apart].map(|x| Point2::new(x, 0.0));
+        boundary_type(&PolylineCurve(points.to_vec()))
+    };
+    assert!(matches!(kind(0.03125, 1.0), BoundaryType::Positive));
+    assert!(matches!(kind(0.032, 1.0), BoundaryType::NotClosed));
+    assert!(matches!(kind(0.0, 0.0), BoundaryType::Negative));
+}
+
+#[test]
+fn one_cut_mends_the_wires() {
+    let (mut edges, mut points, mut lines) = (edges(&[]), vertices(), Vec::new());
+    lines.resize(edges.len(), PolylineCurve(Vec::new()));
+    let cut = vec![(3.0, Point3::new(0.5, 0.25, 0.0))];
+    let new = cut_edge_by_intersections(1, cut, &mut edges, &mut lines, &mut points, 0.1);
+    assert_eq!((edges[1].vertices, edges[5].vertices), ((0, 4), (4, 1)));
+    assert_eq!(edges[1].curve.curve.range(), (0.0, 3.0));
+    assert_eq!(edges[5].curve.curve.range(), (3.0, 8.0));
+    let mut mended = wire("1+ 2+ 1-");
+    insert_new_edges(&mut mended, 1, new);
+    assert_eq!(mended, wire("1+ 5+ 2+ 5- 1-"));
+}

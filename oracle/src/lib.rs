@@ -1,0 +1,20 @@
+//! The oracle: every call of the port is held against the unchanged Rust it
+//! was ported from, byte for byte, and against a model of the refusals.
+
+pub mod compare;
+#[cfg(rust_at_hand)]
+pub mod differ;
+#[cfg(rust_at_hand)]
+pub mod healing;
+pub mod inputs;
+pub mod limits;
+pub mod model;
+pub mod port;
+pub mod random;
+pub mod records;
+pub mod reference;
+pub mod shell;
+#[cfg(rust_at_hand)]
+pub mod shim;
+pub mod small;
+pub mod stored;
