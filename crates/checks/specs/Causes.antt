@@ -33,6 +33,10 @@ lowestOf f (suc n) = lowerOf (lowestOf f n) (f n)
 
 -- ---- lone numbers
 
+-- 1: "A bound on a count is passed by the input", "a count .. is above what was lent": n is above the number given
+abbrev pub countCause : ℕ → ℕ → ℕ
+countCause most n = when (ltb most n) 1
+
 -- 1: "a kind field holds no known kind"
 abbrev pub kindCause : ℕ → ℕ
 kindCause k = when (ltb 1 k) 1

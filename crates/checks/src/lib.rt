@@ -5,7 +5,7 @@ ghost use Prim.Native.Nat.{ℕ, _+_, _*_, _/_, _≤_};
 ghost use lib.ListN.{length, getD, take};
 ghost use Rattle.compress.specs.Records.{firstOf, lastOf};
 ghost use Rattle.compress.specs.Wires.{total};
-ghost use Rattle.checks.specs.Causes.{when, lowerOf, lowestOf, kindCause, vertexNumberCause, edgeNumberCause, floatCause, rangeCause, parameterCause, periodCause, uvCause, curveCause, edgeCause, pointCause, vertexCause, curveKindCause, edgeRowCause, vertexRowCause, edgesCause, verticesCause, usesCause, wiresCause};
+ghost use Rattle.checks.specs.Causes.{when, lowerOf, lowestOf, countCause, kindCause, vertexNumberCause, edgeNumberCause, floatCause, rangeCause, parameterCause, periodCause, uvCause, curveCause, edgeCause, pointCause, vertexCause, curveKindCause, edgeRowCause, vertexRowCause, edgesCause, verticesCause, usesCause, wiresCause};
 use compress::Curve;
 use compress::Edge;
 use compress::Uv;
@@ -32,6 +32,12 @@ pub fn lower(a: u32, b: u32) -> u32
 }
 
 // ---- lone numbers
+
+pub fn count(most: usize, n: usize) -> u32
+    ensures { λ r. ⌜ r ≡ countCause most n ⌝ }
+{
+    cause_when(n > most, 1)
+}
 
 pub fn kind(k: u32) -> u32
     ensures { λ r. ⌜ r ≡ kindCause k ⌝ }

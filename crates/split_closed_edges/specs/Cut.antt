@@ -1,7 +1,9 @@
 -- One closed edge cut at the middle of its curve. Definitions only.
+use mathlib.Core.Path.{_≡_}
 use Prim.Native.Nat.{ℕ}
-use lib.Ieee.{Float}
-use Rattle.floats.specs.Exact.{midpointOf}
+use lib.Dec.{T}
+use lib.Ieee.{Float, le}
+use Rattle.floats.specs.Exact.{sizedOf, midpointOf}
 use Rattle.compress.specs.declared.Curve.{Curve}
 use Rattle.compress.specs.declared.Curve.the-variants.{Span, Seam}
 use Rattle.compress.specs.declared.Edge.{Edge}
@@ -13,6 +15,11 @@ use Rattle.split_closed_edges.specs.declared.Halves.{Halves}
 -- "An edge with equal ends is cut at (t0 + t1) / 2."
 unfoldable pub middleOf : Curve → Float
 middleOf c = midpointOf (firstOf c) (lastOf c)
+
+-- "Proved: the midpoint never leaves the range from t0 to t1. It may equal an end."
+pub record Middle (c : Curve) (r : Float) : Type 0 where
+  pub exact : r ≡ middleOf c
+  pub between : T (sizedOf (firstOf c)) → T (sizedOf (lastOf c)) → T (le (firstOf c) (lastOf c)) → T (le (firstOf c) r) × T (le r (lastOf c))
 
 -- "The old edge keeps t0 to the middle; the new one runs from the middle to t1."
 abbrev pub upTo : Curve → Float → Curve

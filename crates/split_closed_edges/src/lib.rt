@@ -10,7 +10,7 @@ ghost use Rattle.compress.specs.Records.{closed, pick};
 ghost use Rattle.compress.specs.Layout.{rows};
 ghost use Rattle.compress.specs.Rows.{edgeAt, edgeNumbers, edgeFloats, vertexNumbers, vertexFloats};
 ghost use Rattle.compress.specs.Wires.{total, wiresOf, usesOf, lengthsOf};
-ghost use Rattle.split_closed_edges.specs.Cut.{middleOf, upTo, fromOn, halvesOf, pendingOf};
+ghost use Rattle.split_closed_edges.specs.Cut.{Middle, upTo, fromOn, halvesOf, pendingOf};
 ghost use Rattle.split_closed_edges.specs.Pass.{next, addedTo, replaceUse, replaceEdges, replaceWires};
 ghost use Rattle.split_closed_edges.specs.Steps.{cutRows, pendingRow, closedCount, PlaceFor, Addable, Added, Marked, Replaceable, Mended};
 ghost use Rattle.split_closed_edges.specs.Parts.{usesOfParts};
@@ -44,9 +44,9 @@ pub enum Parts {
 
 // ---- one edge
 
-// The parameter halfway along a curve.
+// The parameter halfway along a curve, which never leaves the curve's range.
 pub fn middle(c: Curve) -> f64
-    ensures { λ r. ⌜ r ≡ middleOf c ⌝ }
+    ensures { λ r. ⌜ Middle c r ⌝ }
 {
     match c {
         Curve::Span { number: _, t0, t1 } => floats::midpoint(t0, t1),

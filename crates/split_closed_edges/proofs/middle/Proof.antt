@@ -18,11 +18,11 @@ midpoint-requires-2 c κs = search needs
 
 returns : tie.Need-returns
 unfolding middleOf
-returns c = rw (c .before .before .c .given .1) (c .midpoint .ensures .exact)
+returns c = rw (c .before .before .c .given .1) (record { exact = c .midpoint .ensures .exact; between = c .midpoint .ensures .between })
 
 returns-2 : tie.Need-returns-2
 unfolding middleOf
-returns-2 c = rw (c .before .before .c2 .given .1) (c .midpoint2 .ensures .exact)
+returns-2 c = rw (c .before .before .c2 .given .1) (record { exact = c .midpoint2 .ensures .exact; between = c .midpoint2 .ensures .between })
 
 pub middle-spec : {M : Type 1} → statement M
 middle-spec =

@@ -9,7 +9,7 @@ middle-requires c κs = search needs
 
 returns : tie.Need-returns
 unfolding pendingOf
-returns c = rw (c .middle .ensures)
+returns c = rw (c .middle .ensures .exact)
 
 pub pending-spec : {M : Type 1} → statement M
 pending-spec = tie.close (tie.spec middle-requires returns)
