@@ -2,10 +2,11 @@
 // A cause is its number, and 0 is none. Each check answers for all numbers; what it answers is a definition of specs/Causes.
 ghost use mathlib.Core.Path.{_≡_};
 ghost use Prim.Native.Nat.{ℕ, _+_, _*_, _/_, _≤_};
+ghost use lib.Dec.{eqb};
 ghost use lib.ListN.{length, getD, take};
 ghost use Rattle.compress.specs.Records.{firstOf, lastOf};
 ghost use Rattle.compress.specs.Wires.{total};
-ghost use Rattle.checks.specs.Causes.{when, lowerOf, lowestOf, countCause, kindCause, vertexNumberCause, edgeNumberCause, floatCause, rangeCause, parameterCause, periodCause, uvCause, curveCause, edgeCause, pointCause, vertexCause, curveKindCause, edgeRowCause, vertexRowCause, edgesCause, verticesCause, usesCause, wiresCause};
+ghost use Rattle.checks.specs.Causes.{when, lowerOf, lowestOf, countCause, kindCause, vertexNumberCause, edgeNumberCause, floatCause, rangeCause, parameterCause, periodCause, uvCause, curveCause, edgeCause, pointCause, vertexCause, curveKindCause, edgeRowCause, vertexRowCause, edgesCause, verticesCause, pendingCause, usesCause, wiresCause};
 use compress::Curve;
 use compress::Edge;
 use compress::Uv;
@@ -231,6 +232,31 @@ pub fn vertices(numbers: &[u32], floats: &[f64], count: usize) -> u32
         return 1;
     }
     vertex_rows(numbers, floats, count)
+}
+
+fn pending_rows(numbers: &[u32], count: usize) -> u32
+    requires { ⌜ count * 3 ≤ length (now numbers) ⌝ }
+    ensures { λ r. ⌜ r ≡ lowestOf (λ i. when (eqb (getD (now (numbers .entry)) (i * 3) 0) 1) 7) count ⌝ }
+{
+    let mut least: u32 = 0;
+    for i in 0..count {
+        let a = i * 3;
+        least = lower(least, cause_when(numbers[a] == 1, 7));
+    }
+    least
+}
+
+// Cause 7: a table in which a vertex is pending.
+pub fn pending(numbers: &[u32], count: usize) -> u32
+    ensures { λ r. ⌜ r ≡ pendingCause (now (numbers .entry)) count ⌝ }
+{
+    if count > 4096 {
+        return 0;
+    }
+    if numbers.len() < count * 3 {
+        return 0;
+    }
+    pending_rows(numbers, count)
 }
 
 // ---- wires

@@ -138,3 +138,10 @@ pub copy-more : {A : Type 0} (d : A) (from to₀ to : List A) (i : ℕ) → i < 
     → to ≡ take i from ++ drop i to₀ → set to i (getD from i d) ≡ take (i + 1) from ++ drop (i + 1) to₀
 copy-more d from to₀ to i hf ht q =
     rw (q, take-more d from i hf) (fill-one (take i from) to₀ i (length-take-le i from (omega arith)) (getD from i d) ht)
+
+-- the front of a buffer, one run further
+pub take-sets : {A : Type 0} (out ps : List A) (k : ℕ) → k + length ps ≤ length out → take (k + length ps) (sets out k ps) ≡ take k out ++ ps
+take-sets out ps k h =
+    let t : length (take k out) ≡ k = length-take-le k out (omega arith) in
+    let l : length (take k out ++ ps) ≡ k + length ps = length-append (take k out) ps ∙ rw t in
+    rw (sets-eq ps out k h) (take-at (take k out ++ ps) (drop (k + length ps) out) (k + length ps) l)

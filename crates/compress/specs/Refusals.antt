@@ -37,8 +37,20 @@ refusalNumber SeveralCuts = 14
 -- an empty open wire in a join
 refusalNumber EmptyOpenWire = 15
 
--- the refusal of each of the causes 1 to 5
+-- the refusal that has a number
 unfoldable pub refusalOf : ℕ → Refusal
 refusalOf n =
     pick (eqb n 2) VertexNumber
-    (pick (eqb n 3) EdgeNumber (pick (eqb n 4) NotSized (pick (eqb n 5) OutOfRange Malformed)))
+    (pick (eqb n 3) EdgeNumber
+    (pick (eqb n 4) NotSized
+    (pick (eqb n 5) OutOfRange
+    (pick (eqb n 6) NoRoom
+    (pick (eqb n 7) PendingVertex
+    (pick (eqb n 8) PastEnd
+    (pick (eqb n 9) OddDivisor
+    (pick (eqb n 10) RepeatedVertex
+    (pick (eqb n 11) DeadEnd
+    (pick (eqb n 12) TooManyUses
+    (pick (eqb n 13) EmptyList
+    (pick (eqb n 14) SeveralCuts
+    (pick (eqb n 15) EmptyOpenWire Malformed)))))))))))))

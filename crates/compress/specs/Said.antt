@@ -1,7 +1,12 @@
 -- What a call answers, in document 01's terms: a result, "none", or the number of a refusal. Definitions only.
-use Prim.Native.Nat.{ℕ}
+use Prim.Native.Nat.{ℕ, zero, suc}
 
 pub data Said (A : Type 0) : Type 0 where
   result : A → Said A
   none : Said A
   refused : ℕ → Said A
+
+-- a cause, by its number, ahead of what would be said without one; 0 is no cause
+abbrev pub refusedOr : {A : Type 0} → ℕ → Said A → Said A
+refusedOr zero s = s
+refusedOr (suc n) s = refused (suc n)

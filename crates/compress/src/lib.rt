@@ -87,7 +87,7 @@ pub fn refusal_number(r: Refusal) -> u32
     }
 }
 
-// The refusal of causes 1 to 5, which the checks tell by their numbers.
+// The refusal that has a number. The checks tell their causes by number.
 pub fn refusal_of(cause: u32) -> Refusal
     ensures { λ r. ⌜ r ≡ refusalOf cause ⌝ }
 {
@@ -96,6 +96,16 @@ pub fn refusal_of(cause: u32) -> Refusal
         3 => Refusal::EdgeNumber,
         4 => Refusal::NotSized,
         5 => Refusal::OutOfRange,
+        6 => Refusal::NoRoom,
+        7 => Refusal::PendingVertex,
+        8 => Refusal::PastEnd,
+        9 => Refusal::OddDivisor,
+        10 => Refusal::RepeatedVertex,
+        11 => Refusal::DeadEnd,
+        12 => Refusal::TooManyUses,
+        13 => Refusal::EmptyList,
+        14 => Refusal::SeveralCuts,
+        15 => Refusal::EmptyOpenWire,
         _ => Refusal::Malformed,
     }
 }

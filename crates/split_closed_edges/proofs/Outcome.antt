@@ -101,7 +101,7 @@ module _ (vn : List ℕ) (vf : List Float) (en : List ℕ) (ef : List Float) (us
       → leaves (Refused (refusalOf k)) vn vf en ef us ls ≡ outcomeOf (lentOf vn vf en ef us ls v e w)
   unfolding outcomeOf inputCause
   outcome-cause k q ne =
-      let small : k ≤ 5 = rw q (lower-small (verticesCause vn vf v) _ (vertices-small vn vf v) (lower-small (edgesCause v en ef e) _ (edges-small v en ef e) (wires-small e us ls w))) in
+      let small : k ≤ 15 = rw q (lower-small (verticesCause vn vf v) _ (vertices-small vn vf v) (lower-small (edgesCause v en ef e) _ (edges-small v en ef e) (wires-small e us ls w))) in
       rw (refusal-told k small ne, ← q, way-cause k _ _ ne)
 
   -- ---- no cause

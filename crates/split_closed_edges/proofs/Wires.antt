@@ -8,16 +8,10 @@ use native.Mathlib.Numerals.{add-one}
 use native.Mathlib.Omega.{arith}
 use lib.Dec.{eqb}
 use lib.ListN.{length, getD, take, drop, length-append, length-drop}
-use lib.Seq.{sets, sets-eq, length-sets, take-at, drop-cons, drop-length, length-take-le}
+use lib.Seq.{sets, length-sets, drop-cons, drop-length, length-take-le}
 use Rattle.compress.specs.Records.{forward}
+use Rattle.compress.proofs.Cells.{take-sets}
 use Rattle.split_closed_edges.specs.Pass.{replacedBy, replaceUse, replaceEdges, replaceWires}
-
--- the front of a buffer, one run further
-pub take-sets : {A : Type 0} (out ps : List A) (k : ℕ) → k + length ps ≤ length out → take (k + length ps) (sets out k ps) ≡ take k out ++ ps
-take-sets out ps k h =
-    let t : length (take k out) ≡ k = length-take-le k out (omega arith) in
-    let l : length (take k out ++ ps) ≡ k + length ps = length-append (take k out) ps ∙ rw t in
-    rw (sets-eq ps out k h) (take-at (take k out ++ ps) (drop (k + length ps) out) (k + length ps) l)
 
 -- a use becomes one or two
 by-small : (b f : Bool) (u new : ℕ) → length (replacedBy b f u new) ≤ 2

@@ -1,0 +1,4 @@
+pub mod Choice
+pub mod Unwrap
+pub mod Copies
+pub mod Kinds

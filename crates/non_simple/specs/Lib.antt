@@ -1,0 +1,3 @@
+-- The definitions that the contract of `find_loop` cites, with worked examples.
+pub mod Loop
+pub mod Examples

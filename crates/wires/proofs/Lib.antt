@@ -1,0 +1,2 @@
+-- The laws of turned wires.
+pub mod Turns

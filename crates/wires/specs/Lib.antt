@@ -1,0 +1,2 @@
+-- The definitions that the contract of `rotate_left` cites.
+pub mod Turn
