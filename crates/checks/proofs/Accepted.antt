@@ -9,6 +9,7 @@ use borrow.Author.Tests.{ltb-false, leb-false, eq-eqb}
 use lib.Dec.{eqb, leb, ltb}
 use lib.ListN.{length, getD, take}
 use lib.Ieee.{Float}
+use Rattle.compress.specs.declared.Edge.{Edge}
 use Rattle.compress.specs.Records.{pick}
 use Rattle.compress.specs.Rows.{edgeAt, vertexAt}
 use Rattle.compress.specs.Wires.{total}
@@ -116,3 +117,11 @@ wires-accepted m us ls n e =
       edges = λ k h.
           leb-false m (getD us k 0 / 2) (not-when (leb m (getD us k 0 / 2)) 2 (lowest-none (λ j. edgeNumberCause m (getD us j 0 / 2)) t k (d .1) h));
     }
+
+-- the ends of an edge without a cause
+pub edge-ends : (v : ℕ) (e : Edge) → edgeCause v e ≡ 0 → (e .front < v) × (e .back < v)
+unfolding edgeCause
+edge-ends v e q =
+    let a = lower-none (when (leb v (e .front)) 2) _ q in
+    let b = lower-none (when (leb v (e .back)) 2) _ (a .1) in
+    (leb-false v (e .front) (not-when (leb v (e .front)) 1 (a .0)), leb-false v (e .back) (not-when (leb v (e .back)) 1 (b .0)))

@@ -273,7 +273,8 @@ pub fn total_uses(lengths: &[u32], count: usize) -> usize
     sum
 }
 
-fn use_rows(edges: usize, uses: &[u32], count: usize) -> u32
+// The first `count` uses, of a table of `edges` edges.
+pub fn use_rows(edges: usize, uses: &[u32], count: usize) -> u32
     requires { ⌜ count ≤ length (now uses) ⌝ }
     ensures { λ r. ⌜ r ≡ usesCause edges (now (uses .entry)) count ⌝ }
 {

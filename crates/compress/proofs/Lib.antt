@@ -2,3 +2,4 @@ pub mod Cells
 pub mod Layouts
 pub mod Rows
 pub mod Room
+pub mod Wires

@@ -1,3 +1,5 @@
 pub mod Choices
 pub mod Refused
 pub mod Sorting
+pub mod Fronts
+pub mod Accepted

@@ -2,3 +2,4 @@ pub mod Choice
 pub mod Unwrap
 pub mod Copies
 pub mod Kinds
+pub mod Ends

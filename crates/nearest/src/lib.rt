@@ -1,18 +1,21 @@
 // Document 000, `split_closed_faces.rs`: unwrapping, nearest copy, kind of wire, sorting of wires, nearest ends.
 ghost use mathlib.Core.Path.{_≡_};
 ghost use mathlib.Core.List.{List, [], _∷_, foldl};
-ghost use Prim.Native.Nat.{ℕ, _+_, _*_, _≤_, _<_};
-ghost use lib.ListN.{length, getD, take};
+ghost use Prim.Native.Nat.{ℕ, _+_, _*_, _/_, _≤_, _<_};
+ghost use lib.ListN.{length, getD, take, drop};
 ghost use lib.Seq.{sets};
 ghost use lib.Ieee.{Float, nan};
 ghost use Rattle.nearest.specs.Choice.{smaller};
 ghost use Rattle.nearest.specs.Unwrap.{candidatesOf, sizeOf, awayFrom, nearestOf, unwrapped, periodCauseOf, unwrapCause, saidUnwrapped, getMindiff};
 ghost use Rattle.nearest.specs.Copies.{firstShift, laterShifts, shiftsOf, shifted, copiesAlong, copiesOver, from, nearestCopyOf, copyCause, saidCopy, nearestCopySaid};
 ghost use Rattle.nearest.specs.Kinds.{isClosed, boundaryType, kindCauseOf, saidKind, boundaryTypeSaid, typeAt, typeCauseAt, isOpen, same, isWanted, wantedBelow, sortCause, saidSorted, unsorted, sortWires};
-ghost use Rattle.checks.specs.Causes.{lowestOf};
+ghost use Rattle.nearest.specs.Ends.{pointOf, pointGap, gapFrom, frontAt, nearestFront, nearestEnds, saidEnds, tablesCause, stretchesCause, endsCause, nearestCorrection};
+ghost use Rattle.checks.specs.Causes.{lowestOf, verticesCause, edgesCause};
+ghost use Rattle.compress.specs.Rows.{edgeAt, vertexAt};
 ghost use Rattle.compress.specs.Records.{pick};
 use compress::Refusal;
 use compress::Uv;
+use compress::Vertex;
 
 // A period: absent, or a number above 0.
 pub enum Period {
@@ -407,4 +410,249 @@ pub fn sort_wires(ends: &[f64], wires: usize, opens: &mut [u32], closed: &mut [u
         return Sorted::Unsorted(compress::refusal_of(cause));
     }
     sort_checked(ends, wires, opens, closed)
+}
+
+// ---- nearest ends
+
+// A point in space.
+pub struct Xyz {
+    pub x: f64,
+    pub y: f64,
+    pub z: f64,
+}
+
+// The answer of nearest ends: a vertex of the first stretch and one of the second, or "none".
+pub enum Ends {
+    Between(u32, u32),
+    NoEnds,
+    EndsRefused(Refusal),
+}
+
+fn point_of(v: Vertex) -> Xyz
+    ensures { λ r. ⌜ r ≡ pointOf v ⌝ }
+{
+    match v {
+        Vertex::Given { x, y, z } => Xyz { x, y, z },
+        Vertex::Pending { curve: _, t: _ } => Xyz {
+            x: 0.0,
+            y: 0.0,
+            z: 0.0,
+        },
+    }
+}
+
+fn point_gap(p: Xyz, q: Xyz) -> f64
+    ensures { λ r. ⌜ r ≡ pointGap p q ⌝ }
+{
+    floats::distance2_xyz(p.x, p.y, p.z, q.x, q.y, q.z)
+}
+
+// The squared distance of two vertices.
+fn gap_from(numbers: &[u32], floats: &[f64], p: u32, v: u32) -> f64
+    requires { ⌜ (p * 3 + 3 ≤ length (now numbers)) × (p * 7 + 7 ≤ length (now floats)) × (v * 3 + 3 ≤ length (now numbers)) × (v * 7 + 7 ≤ length (now floats)) ⌝ }
+    ensures { λ r. ⌜ r ≡ gapFrom (vertexAt (now (numbers .entry)) (now (floats .entry))) p v ⌝ }
+{
+    let a = point_of(compress::vertex_at(numbers, floats, p as usize));
+    let b = point_of(compress::vertex_at(numbers, floats, v as usize));
+    point_gap(a, b)
+}
+
+// The front of a use.
+pub fn front_at(numbers: &[u32], floats: &[f64], u: u32) -> u32
+    requires { ⌜ (u / 2 * 4 + 4 ≤ length (now numbers)) × (u / 2 * 6 + 6 ≤ length (now floats)) ⌝ }
+    ensures { λ r. ⌜ r ≡ frontAt (edgeAt (now (numbers .entry)) (now (floats .entry))) u ⌝ }
+{
+    let i = (u / 2) as usize;
+    compress::front(compress::edge_at(numbers, floats, i), u)
+}
+
+// Of two vertices the one that is nearer to p; a on a tie.
+fn nearer_vertex(numbers: &[u32], floats: &[f64], p: u32, a: u32, b: u32) -> u32
+    requires { ⌜ (p * 3 + 3 ≤ length (now numbers)) × (p * 7 + 7 ≤ length (now floats)) ⌝ }
+    requires { ⌜ (a * 3 + 3 ≤ length (now numbers)) × (a * 7 + 7 ≤ length (now floats)) × (b * 3 + 3 ≤ length (now numbers)) × (b * 7 + 7 ≤ length (now floats)) ⌝ }
+    ensures { λ r. ⌜ r ≡ smaller (gapFrom (vertexAt (now (numbers .entry)) (now (floats .entry))) p) a b ⌝ }
+{
+    let x = gap_from(numbers, floats, p, a);
+    let y = gap_from(numbers, floats, p, b);
+    if y < x { b } else { a }
+}
+
+// The front of a stretch that is nearest to vertex p.
+fn nearest_front(
+    vertex_numbers: &[u32],
+    vertex_floats: &[f64],
+    edge_numbers: &[u32],
+    edge_floats: &[f64],
+    vertices: usize,
+    edges: usize,
+    stretch: &[u32],
+    p: u32,
+) -> u32
+    requires { ⌜ (verticesCause (now «vertex_numbers») (now «vertex_floats») vertices ≡ 0) × (edgesCause vertices (now «edge_numbers») (now «edge_floats») edges ≡ 0) ⌝ }
+    requires { ⌜ (0 < length (now stretch)) × (p < vertices) × ((k : ℕ) → k < length (now stretch) → getD (now stretch) k 0 / 2 < edges) ⌝ }
+    ensures { λ r. ⌜ (r ≡ nearestFront (edgeAt (now («edge_numbers» .entry)) (now («edge_floats» .entry))) (vertexAt (now («vertex_numbers» .entry)) (now («vertex_floats» .entry))) p (getD (now (stretch .entry)) 0 0) (drop 1 (now (stretch .entry)))) × (r < vertices) ⌝ }
+{
+    let mut best = front_at(edge_numbers, edge_floats, stretch[0]);
+    let mut i: usize = 1;
+    while i < stretch.len() {
+        let v = front_at(edge_numbers, edge_floats, stretch[i]);
+        best = nearer_vertex(vertex_numbers, vertex_floats, p, best, v);
+        i += 1;
+    }
+    best
+}
+
+// Nearest ends of two stretches, over tables and stretches that were checked.
+pub fn nearest_ends(
+    vertex_numbers: &[u32],
+    vertex_floats: &[f64],
+    edge_numbers: &[u32],
+    edge_floats: &[f64],
+    vertices: usize,
+    edges: usize,
+    first: &[u32],
+    second: &[u32],
+    v0: u32,
+) -> Ends
+    requires { ⌜ (verticesCause (now «vertex_numbers») (now «vertex_floats») vertices ≡ 0) × (edgesCause vertices (now «edge_numbers») (now «edge_floats») edges ≡ 0) × (v0 < vertices) ⌝ }
+    requires { ⌜ ((k : ℕ) → k < length (now first) → getD (now first) k 0 / 2 < edges) ⌝ }
+    requires { ⌜ ((k : ℕ) → k < length (now second) → getD (now second) k 0 / 2 < edges) ⌝ }
+    ensures { λ r. ⌜ saidEnds r ≡ nearestEnds (edgeAt (now («edge_numbers» .entry)) (now («edge_floats» .entry))) (vertexAt (now («vertex_numbers» .entry)) (now («vertex_floats» .entry))) v0 (now (first .entry)) (now (second .entry)) ⌝ }
+{
+    if second.len() == 0 {
+        return Ends::NoEnds;
+    }
+    let v1 = nearest_front(
+        vertex_numbers,
+        vertex_floats,
+        edge_numbers,
+        edge_floats,
+        vertices,
+        edges,
+        second,
+        v0,
+    );
+    if first.len() == 0 {
+        return Ends::NoEnds;
+    }
+    let w0 = nearest_front(
+        vertex_numbers,
+        vertex_floats,
+        edge_numbers,
+        edge_floats,
+        vertices,
+        edges,
+        first,
+        v1,
+    );
+    Ends::Between(w0, v1)
+}
+
+// Causes 1 to 5 of both tables, and 7.
+pub fn tables_cause(
+    vertex_numbers: &[u32],
+    vertex_floats: &[f64],
+    edge_numbers: &[u32],
+    edge_floats: &[f64],
+    vertices: usize,
+    edges: usize,
+) -> u32
+    ensures { λ r. ⌜ r ≡ tablesCause (now («vertex_numbers» .entry)) (now («vertex_floats» .entry)) (now («edge_numbers» .entry)) (now («edge_floats» .entry)) vertices edges ⌝ }
+{
+    let v = checks::vertices(vertex_numbers, vertex_floats, vertices);
+    let e = checks::edges(vertices, edge_numbers, edge_floats, edges);
+    let p = checks::pending(vertex_numbers, vertices);
+    checks::lower(v, checks::lower(e, p))
+}
+
+fn stretches_cause(edges: usize, a: &[u32], n: usize, b: &[u32], m: usize) -> u32
+    ensures { λ r. ⌜ r ≡ stretchesCause edges (now (a .entry)) n (now (b .entry)) m ⌝ }
+{
+    if a.len() < n {
+        return 1;
+    }
+    if b.len() < m {
+        return 1;
+    }
+    if n > 1024 {
+        return 1;
+    }
+    if m > 1024 - n {
+        return 1;
+    }
+    let x = checks::use_rows(edges, a, n);
+    let y = checks::use_rows(edges, b, m);
+    checks::lower(x, y)
+}
+
+fn ends_cause(
+    vertex_numbers: &[u32],
+    vertex_floats: &[f64],
+    edge_numbers: &[u32],
+    edge_floats: &[f64],
+    first: &[u32],
+    second: &[u32],
+    vertices: usize,
+    edges: usize,
+    n: usize,
+    m: usize,
+    v0: u32,
+) -> u32
+    ensures { λ r. ⌜ r ≡ endsCause (now («vertex_numbers» .entry)) (now («vertex_floats» .entry)) (now («edge_numbers» .entry)) (now («edge_floats» .entry)) (now (first .entry)) (now (second .entry)) vertices edges n m v0 ⌝ }
+{
+    let t = tables_cause(
+        vertex_numbers,
+        vertex_floats,
+        edge_numbers,
+        edge_floats,
+        vertices,
+        edges,
+    );
+    let w = stretches_cause(edges, first, n, second, m);
+    checks::lower(t, checks::lower(checks::vertex_number(vertices, v0), w))
+}
+
+// `nearest_correction`: from v0 the nearest front of the second stretch, from there the nearest front of the first.
+pub fn nearest_correction(
+    vertex_numbers: &[u32],
+    vertex_floats: &[f64],
+    edge_numbers: &[u32],
+    edge_floats: &[f64],
+    first: &[u32],
+    second: &[u32],
+    vertices: usize,
+    edges: usize,
+    n: usize,
+    m: usize,
+    v0: u32,
+) -> Ends
+    ensures { λ r. ⌜ saidEnds r ≡ nearestCorrection (now («vertex_numbers» .entry)) (now («vertex_floats» .entry)) (now («edge_numbers» .entry)) (now («edge_floats» .entry)) (now (first .entry)) (now (second .entry)) vertices edges n m v0 ⌝ }
+{
+    let cause = ends_cause(
+        vertex_numbers,
+        vertex_floats,
+        edge_numbers,
+        edge_floats,
+        first,
+        second,
+        vertices,
+        edges,
+        n,
+        m,
+        v0,
+    );
+    if cause != 0 {
+        return Ends::EndsRefused(compress::refusal_of(cause));
+    }
+    nearest_ends(
+        vertex_numbers,
+        vertex_floats,
+        edge_numbers,
+        edge_floats,
+        vertices,
+        edges,
+        &first[..n],
+        &second[..m],
+        v0,
+    )
 }

@@ -1,3 +1,5 @@
 -- The laws of the search for a repeated edge.
 pub mod Search
 pub mod Repeats
+pub mod Divisors
+pub mod Scanning

@@ -8,6 +8,7 @@ use native.Mathlib.Omega.{arith}
 use lib.ListN.{length, getD, set, take, drop, length-set, length-append, length-drop, length-take}
 use lib.Seq.{append-snoc, take-suc-set, take-append-le, take-append-add, length-take-le, drop-cons, drop-drop, drop-length, getD-take, getD-drop, take-all}
 use Rattle.compress.specs.Wires.{total, wiresOf, usesOf, lengthsOf}
+use Rattle.compress.proofs.Wires.{wire-in, wires-first, wire-size}
 use Rattle.split_closed_edges.specs.Pass.{replaceEdges, replaceWires}
 use Rattle.split_closed_edges.specs.Steps.{Replaceable, Mended}
 use Rattle.split_closed_edges.proofs.Wires.{edges-small}
@@ -46,16 +47,9 @@ module _ (us ls : List ℕ) (wires : ℕ) (added out₀ ol₀ : List ℕ) (R : R
   wiring-start = record { w-le = omega arith; from-is = omega arith; at-le = omega arith; same-out = refl; same-ol = refl; uses = refl; lengths = refl }
 
   module _ (out ol : List ℕ) (w from at : ℕ) (M : Wiring us ls wires added out₀ ol₀ out ol w from at) (lt : w < wires) where
-    -- the lengths that are left: that of wire w, and the rest
-    first : drop w (take wires ls) ≡ getD ls w 0 ∷ drop (w + 1) (take wires ls)
-    first =
-        let l : length (take wires ls) ≡ wires = length-take-le wires ls (R .wires-le) in
-        rw (add-one w) (drop-cons (take wires ls) w 0 (omega arith) ∙ rw (getD-take wires ls w 0 lt))
-
     -- wire w lies in the uses
     pub wire-lies : from + getD ls w 0 + total (drop (w + 1) (take wires ls)) ≡ total (take wires ls)
-    unfolding total
-    wire-lies = omega (arith, rw first at (M .from-is))
+    wire-lies = wire-in us ls wires w from (R .wires-le) lt (M .from-is)
 
     pub wire-uses : (k : ℕ) → k < getD ls w 0 → getD (take (from + getD ls w 0 - from) (drop from us)) k 0 / 2 < length added
     wire-uses k h =
@@ -63,9 +57,7 @@ module _ (us ls : List ℕ) (wires : ℕ) (added out₀ ol₀ : List ℕ) (R : R
         rw (p, getD-take (getD ls w 0) (drop from us) k 0 h, getD-drop) (R .edges (from + k) (omega (arith, wire-lies)))
 
     pub wire-length : length (take (from + getD ls w 0 - from) (drop from us)) ≡ getD ls w 0
-    wire-length =
-        let p : from + getD ls w 0 - from ≡ getD ls w 0 = omega arith in
-        rw p (length-take-le (getD ls w 0) (drop from us) (rw length-drop (omega (arith, wire-lies, R .lent))))
+    wire-length = wire-size us ls wires w from (R .wires-le) lt (omega (arith, wire-lies, R .lent))
 
     -- the part of the buffer from at on has two places for each use of wire w
     pub part-length : length (take (length out - at) (drop at out)) ≡ length out - at
@@ -88,10 +80,9 @@ module _ (us ls : List ℕ) (wires : ℕ) (added out₀ ol₀ : List ℕ) (R : R
         let rest = replaceWires added (wiresOf (drop (from + getD ls w 0) us) (drop (w + 1) (take wires ls))) in
         let small : n ≤ getD ls w 0 * 2 = wire-small n en in
         let room : at + n ≤ length out = omega (arith, small, M .at-le, wire-lies, R .room, M .same-out) in
-        let p : getD ls w 0 ≡ from + getD ls w 0 - from = omega arith in
         let t : take (w + 1) (set ol w n) ≡ take w ol ++ (n ∷ []) = rw (add-one w) (take-suc-set ol w n (omega (arith, R .places, M .same-ol))) in
         let q : replaceWires added (wiresOf (drop from us) (drop w (take wires ls))) ≡ replaceEdges added wire ∷ rest
-        = rw (first, drop-drop, ← p) in
+        = rw (wires-first us ls wires w from (R .wires-le) lt) in
         record {
           w-le = omega arith;
           from-is = wire-lies;

@@ -1,0 +1,35 @@
+-- `nearest::ends_cause` meets its contract. Assumes nothing.
+use borrow.Author.Needs.{needs}
+use Rattle.nearest.specs.Ends.{endsCause}
+use Rattle.nearest.proofs.ends_cause.Statement.{statement}
+use Rattle.nearest.proofs.ends_cause.Tie as tie
+
+tables-cause-requires : tie.Need-tables-cause-requires
+tables-cause-requires c κs = search needs
+
+stretches-cause-requires : tie.Need-stretches-cause-requires
+stretches-cause-requires c κs = search needs
+
+vertex-number-requires : tie.Need-vertex-number-requires
+vertex-number-requires c κs = search needs
+
+lower-requires : tie.Need-lower-requires
+lower-requires c κs = search needs
+
+lower-requires-2 : tie.Need-lower-requires-2
+lower-requires-2 c κs = search needs
+
+returns : tie.Need-returns
+unfolding endsCause
+returns c = cc
+
+pub ends-cause-spec : {M : Type 1} → statement M
+ends-cause-spec =
+    tie.close
+    (tie.spec
+    tables-cause-requires
+    stretches-cause-requires
+    vertex-number-requires
+    lower-requires
+    lower-requires-2
+    returns)

@@ -1,0 +1,82 @@
+-- Nearest ends (`nearest_correction`). Edges and vertices are given by number. Definitions only.
+use mathlib.Core.List.{List, [], _∷_}
+use Prim.Native.Nat.{ℕ, _+_, _/_}
+use lib.Dec.{ltb}
+use lib.ListN.{length, take}
+use lib.Ieee.{Float, nan}
+use Rattle.floats.specs.Exact.{distance2Xyz}
+use Rattle.compress.specs.declared.Edge.{Edge}
+use Rattle.compress.specs.declared.Vertex.{Vertex}
+use Rattle.compress.specs.declared.Vertex.the-variants.{Given, Pending}
+use Rattle.compress.specs.Records.{pick, edgeOfUse, frontOf}
+use Rattle.compress.specs.Refusals.{refusalNumber}
+use Rattle.compress.specs.Rows.{edgeAt, vertexAt}
+use Rattle.compress.specs.Said.{Said, result, none, refused, refusedOr}
+use Rattle.checks.specs.Causes.{lowerOf, verticesCause, edgesCause, usesCause, vertexNumberCause, pendingCause}
+use Rattle.nearest.specs.declared.Xyz.{Xyz}
+use Rattle.nearest.specs.declared.Ends.{Ends}
+use Rattle.nearest.specs.declared.Ends.the-variants.{Between, NoEnds, EndsRefused}
+use Rattle.nearest.specs.Choice.{zero64, smallest}
+
+-- the point of a given vertex; a pending one has none, and is refused (7) before it is read
+unfoldable pub pointOf : Vertex → Xyz
+pointOf (Given x y z) = record { x = x; y = y; z = z }
+pointOf (Pending c t) = record { x = zero64; y = zero64; z = zero64 }
+
+-- "Squares are added in the order x, y, z"
+unfoldable pub pointGap : Xyz → Xyz → Float
+pointGap p q = distance2Xyz (p .x) (p .y) (p .z) (q .x) (q .y) (q .z)
+
+unfoldable pub gapFrom : (ℕ → Vertex) → ℕ → ℕ → Float
+gapFrom vs p v = pointGap (pointOf (vs p)) (pointOf (vs v))
+
+-- the front of a use, and of each use of a stretch
+unfoldable pub frontAt : (ℕ → Edge) → ℕ → ℕ
+frontAt es u = frontOf (es (edgeOfUse u)) u
+
+unfoldable pub frontsOf : (ℕ → Edge) → List ℕ → List ℕ
+frontsOf es [] = []
+frontsOf es (u ∷ us) = frontAt es u ∷ frontsOf es us
+
+-- the front nearest to vertex p in a stretch of use u and those that follow; "the first smallest wins"
+unfoldable pub nearestFront : (ℕ → Edge) → (ℕ → Vertex) → ℕ → ℕ → List ℕ → ℕ
+nearestFront es vs p u us = smallest (gapFrom vs p) (frontAt es u) (frontsOf es us)
+
+-- two vertices: one in the first stretch, one in the second
+pub record Divisor : Type 0 where
+  pub v0 : ℕ
+  pub v1 : ℕ
+
+-- "From v0, the nearest front of the second stretch; from there, the nearest front of the first. .. An empty stretch gives "none"."
+abbrev pub endsFrom : (ℕ → Edge) → (ℕ → Vertex) → ℕ → List ℕ → Said Divisor
+endsFrom es vs v1 [] = none
+endsFrom es vs v1 (u ∷ us) = result (record { v0 = nearestFront es vs v1 u us; v1 = v1 })
+
+unfoldable pub nearestEnds : (ℕ → Edge) → (ℕ → Vertex) → ℕ → List ℕ → List ℕ → Said Divisor
+nearestEnds es vs v0 first [] = none
+nearestEnds es vs v0 first (u ∷ us) = endsFrom es vs (nearestFront es vs v0 u us) first
+
+-- ---- the call
+
+-- two stretches of n and m uses: "a count .. is above what was lent", "1,024 uses in all wires of a call", and their edge numbers
+unfoldable pub stretchesCause : ℕ → List ℕ → ℕ → List ℕ → ℕ → ℕ
+stretchesCause edges a n b m =
+    pick (ltb (length a) n) 1
+    (pick (ltb (length b) m) 1
+    (pick (ltb 1024 (n + m)) 1 (lowerOf (usesCause edges a n) (usesCause edges b m))))
+
+unfoldable pub tablesCause : List ℕ → List Float → List ℕ → List Float → ℕ → ℕ → ℕ
+tablesCause vn vf en ef v e = lowerOf (verticesCause vn vf v) (lowerOf (edgesCause v en ef e) (pendingCause vn v))
+
+unfoldable pub endsCause : List ℕ → List Float → List ℕ → List Float → List ℕ → List ℕ → ℕ → ℕ → ℕ → ℕ → ℕ → ℕ
+endsCause vn vf en ef a b v e n m v0 =
+    lowerOf (tablesCause vn vf en ef v e) (lowerOf (vertexNumberCause v v0) (stretchesCause e a n b m))
+
+abbrev pub saidEnds : Ends → Said Divisor
+saidEnds (Between v0 v1) = result (record { v0 = v0; v1 = v1 })
+saidEnds NoEnds = none
+saidEnds (EndsRefused r) = refused (refusalNumber r)
+
+unfoldable pub nearestCorrection : List ℕ → List Float → List ℕ → List Float → List ℕ → List ℕ → ℕ → ℕ → ℕ → ℕ → ℕ → Said Divisor
+nearestCorrection vn vf en ef a b v e n m v0 =
+    refusedOr (endsCause vn vf en ef a b v e n m v0) (nearestEnds (edgeAt en ef) (vertexAt vn vf) v0 (take n a) (take m b))
