@@ -2,11 +2,24 @@
 //! crate through `cfg` which of the two are at hand.
 
 use std::env;
+use std::fs;
 use std::path::{Path, PathBuf};
+
+/// The calls that an archive may have or not have yet.
+const LATER: [&str; 6] = [
+    "get_mindiff",
+    "nearest_copy",
+    "boundary_type",
+    "sort_wires",
+    "nearest_correction",
+    "find_non_simple_wire_divisor",
+];
 
 fn main() {
     println!("cargo:rustc-check-cfg=cfg(rust_at_hand)");
     println!("cargo:rustc-check-cfg=cfg(library_at_hand)");
+    let names = LATER.map(|name| format!("{name:?}")).join(", ");
+    println!("cargo:rustc-check-cfg=cfg(library_has, values({names}))");
     println!("cargo:rerun-if-changed=build.rs");
     let crate_folder = PathBuf::from(env::var_os("CARGO_MANIFEST_DIR").expect("set by cargo"));
     find_rust(&crate_folder);
@@ -34,7 +47,8 @@ fn find_rust(crate_folder: &Path) {
     }
 }
 
-/// The archive that holds the port's exports.
+/// The archive that holds the port's exports, and which of them it has: the
+/// names of its symbols stand in its bytes, each with a zero behind it.
 fn find_library(crate_folder: &Path) {
     let place = folder("KAUGRENNA_LIB", crate_folder.join("../target/staticlib"));
     let archive = place.join("libhealing.a");
@@ -43,5 +57,13 @@ fn find_library(crate_folder: &Path) {
         println!("cargo:rustc-cfg=library_at_hand");
         println!("cargo:rustc-link-search=native={}", place.display());
         println!("cargo:rustc-link-lib=static=healing");
+        let bytes = fs::read(&archive).unwrap_or_default();
+        for name in LATER {
+            let symbol = format!("kaugrenna_{name}\0");
+            let mut windows = bytes.windows(symbol.len());
+            if windows.any(|window| window == symbol.as_bytes()) {
+                println!("cargo:rustc-cfg=library_has={name:?}");
+            }
+        }
     }
 }

@@ -1,12 +1,14 @@
-//! The differential run: groups of inputs, each call held against the Rust.
+//! The differential run: groups of inputs for each call, every one of them
+//! held against the Rust.
 
-use crate::compare::{expected, Tally};
-use crate::inputs;
-use crate::limits;
-use crate::port::Port;
+use crate::calls::find_divisor::FindDivisor;
+use crate::calls::nearest_correction::NearestEnds;
+use crate::calls::sort_wires::SortWires;
+use crate::calls::Families;
+use crate::compare::Tally;
+use crate::port::{NearestCopy, Port, Unwrap, WireEnds};
 use crate::random::Random;
 use crate::shell::Lent;
-use crate::small;
 
 /// A family of inputs.
 #[derive(Clone, Copy, Debug, PartialEq, Eq)]
@@ -44,37 +46,67 @@ impl Group {
 #[derive(Clone, Copy)]
 pub struct Plan {
     pub seed: u64,
-    /// Calls in each of the random groups.
+    /// Calls in each of the random groups of `split_closed_edges`; other
+    /// calls are made some times as often.
     pub calls: usize,
     /// Whether a group ends with the first difference.
     pub hasty: bool,
 }
 
-/// Runs one group.
-pub fn run(port: &dyn Port, group: Group, plan: Plan) -> Tally {
+/// One of the calls, with the way to run a group of it.
+#[derive(Clone, Copy)]
+pub struct Runner {
+    pub name: &'static str,
+    pub run: fn(&dyn Port, Group, Plan) -> Tally,
+    /// The answers and results that a whole run must have seen and has not.
+    pub unseen: fn(&Tally) -> Vec<String>,
+}
+
+/// The runner of a call.
+const fn runner<I: Families>() -> Runner {
+    Runner {
+        name: I::NAME,
+        run: run::<I>,
+        unseen: Tally::unseen::<I>,
+    }
+}
+
+/// All calls, in the order in which they are run.
+pub const CALLS: [Runner; 7] = [
+    runner::<Lent>(),
+    runner::<Unwrap>(),
+    runner::<NearestCopy>(),
+    runner::<WireEnds>(),
+    runner::<SortWires>(),
+    runner::<NearestEnds>(),
+    runner::<FindDivisor>(),
+];
+
+/// Runs one group of one call.
+pub fn run<I: Families>(port: &dyn Port, group: Group, plan: Plan) -> Tally {
     let mut tally = Tally::default();
-    let mut judge = |input: &Lent| {
-        tally.judge(port, input, &expected(input));
+    let mut judge = |input: &I| {
+        tally.judge(port, input, &input.expected());
         !(plan.hasty && tally.differences > 0)
     };
     match group {
-        Group::Limits => return run_limits(port),
-        Group::Small => small::each(&mut judge),
-        Group::Random => each(group, plan, inputs::random, &mut judge),
-        Group::Damaged => each(group, plan, inputs::damaged, &mut judge),
-        Group::Noise => each(group, plan, inputs::noise, &mut judge),
+        Group::Limits => return run_limits::<I>(port),
+        Group::Small => I::small(&mut judge),
+        Group::Random => each(group, plan, I::random, &mut judge),
+        Group::Damaged => each(group, plan, I::damaged, &mut judge),
+        Group::Noise => each(group, plan, I::noise, &mut judge),
     }
     tally
 }
 
 /// Shows the inputs of a random group to the visitor, until it answers false.
-fn each(
+fn each<I: Families>(
     group: Group,
     plan: Plan,
-    make: fn(&mut Random) -> Lent,
-    visit: &mut dyn FnMut(&Lent) -> bool,
+    make: fn(&mut Random) -> I,
+    visit: &mut dyn FnMut(&I) -> bool,
 ) {
-    for index in 0..plan.calls {
+    for index in 0..plan.calls * I::TIMES {
         let mut random = Random::new(plan.seed, group as u64, index as u64);
         if !visit(&make(&mut random)) {
             return;
@@ -83,10 +115,10 @@ fn each(
 }
 
 /// Runs the named cases: their written answers must be the Rust's as well.
-fn run_limits(port: &dyn Port) -> Tally {
+fn run_limits<I: Families>(port: &dyn Port) -> Tally {
     let mut tally = Tally::default();
-    for case in limits::cases() {
-        if expected(&case.input) != case.expected {
+    for case in I::limits() {
+        if case.input.expected() != case.expected {
             let what = format!("{}: the Rust disagrees with the written answer", case.name);
             tally.note(&case.input, what);
         }

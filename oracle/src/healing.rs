@@ -3,6 +3,8 @@
 //! This module stands where the sources expect their parent: it gives them
 //! the compressed records, the short names and the shim, and nothing else.
 
+mod quiet;
+
 use crate::records;
 use crate::shim::*;
 use std::collections::hash_map::DefaultHasher;
@@ -58,10 +60,12 @@ mod split_closed_edges {
     include!(concat!(env!("KAUGRENNA_HEALING"), "/split_closed_edges.rs"));
 }
 
-/// Its functions are private: a way to one of them is added in here.
+/// Its functions are private: the way to some of them is added in here.
 #[allow(dead_code, clippy::all)]
 mod split_closed_faces {
     include!(concat!(env!("KAUGRENNA_HEALING"), "/split_closed_faces.rs"));
+
+    pub(super) mod ways;
 
     #[cfg(test)]
     mod worked;
@@ -83,6 +87,79 @@ pub fn split(shell: &records::Shell, faces: usize) -> records::Shell {
     }
 }
 
+/// The Rust's `get_mindiff`.
+pub fn get_mindiff(u: f64, u0: f64, period: f64) -> f64 {
+    split_closed_faces::ways::unwrapped(u, u0, period)
+}
+
+/// The copy that the Rust takes out of its `periodic_iterator`.
+pub fn nearest_copy(p: [f64; 2], q: [f64; 2], periods: [Option<f64>; 2]) -> [f64; 2] {
+    let copy = split_closed_faces::ways::nearest(point2(p), point2(q), periods.into());
+    [copy.x, copy.y]
+}
+
+/// The Rust's `boundary_type` of a polyline with these ends and this area:
+/// 0 for Positive, 1 for Negative, 2 for NotClosed.
+pub fn boundary_type(first: [f64; 2], last: [f64; 2], area: f64) -> u32 {
+    let points = vec![point2(first), Point2::new(area, 0.0), point2(last)];
+    split_closed_faces::ways::kind(&PolylineCurve(points))
+}
+
+/// The Rust's `nearest_correction` over two rows of uses.
+pub fn nearest_correction(
+    v0: u32,
+    stretches: [&[u32]; 2],
+    vertices: &[records::Vertex],
+    edges: &[records::Edge],
+) -> Option<[u32; 2]> {
+    let [first, second] = stretches.map(to_wire);
+    let (points, edges) = (points(vertices), to_edges(edges));
+    let found =
+        split_closed_faces::ways::nearest_ends(v0 as usize, [&first, &second], &points, &edges)?;
+    Some(numbers(found))
+}
+
+/// The Rust's `find_non_simple_wire_divisor`; an error where it panics
+/// because it reads past the end of a wire.
+pub fn find_divisor(shell: &records::Shell) -> Result<Option<[u32; 2]>, PastEnd> {
+    let wires: Vec<Wire> = shell.wires.iter().map(|wire| to_wire(wire)).collect();
+    let (points, edges) = (points(&shell.vertices), to_edges(&shell.edges));
+    let search = || split_closed_faces::ways::divisor(&wires, &edges, &points);
+    match quiet::caught(search) {
+        Ok(found) => Ok(found.map(numbers)),
+        Err(said) if said.starts_with("index out of bounds") => Err(PastEnd),
+        Err(said) => panic!("the Rust panicked: {said}"),
+    }
+}
+
+/// The Rust read past the end of a wire.
+#[derive(Clone, Copy, Debug, PartialEq, Eq)]
+pub struct PastEnd;
+
+/// A point of the parameter plane.
+fn point2([u, v]: [f64; 2]) -> Point2 {
+    Point2::new(u, v)
+}
+
+/// The points of vertices, all of which are given.
+fn points(vertices: &[records::Vertex]) -> Vec<Point3> {
+    let point = |vertex: &records::Vertex| match *vertex {
+        records::Vertex::Given(x, y, z) => Point3::new(x, y, z),
+        records::Vertex::Pending(..) => panic!("a pending vertex has no point"),
+    };
+    vertices.iter().map(point).collect()
+}
+
+/// Edges as the Rust holds them.
+fn to_edges(edges: &[records::Edge]) -> Vec<Edge<On<Point3>>> {
+    edges.iter().map(to_rust).collect()
+}
+
+/// Two vertex numbers as they are told.
+fn numbers((v0, v1): (usize, usize)) -> [u32; 2] {
+    [v0 as u32, v1 as u32]
+}
+
 /// An edge as the Rust holds it.
 fn to_rust<P>(edge: &records::Edge) -> Edge<On<P>> {
     Edge {
@@ -100,17 +177,20 @@ fn from_rust<P>(edge: &Edge<On<P>>) -> records::Edge {
     }
 }
 
-/// The wires as the Rust holds them: wire i stands in face i modulo `faces`.
-fn deal(wires: &[Vec<u32>], faces: usize) -> Vec<Face<()>> {
+/// A wire as the Rust holds it.
+fn to_wire(uses: &[u32]) -> Wire {
     let to_use = |&number: &u32| EdgeIndex {
         index: number as usize / 2,
         orientation: number % 2 == 0,
     };
+    uses.iter().map(to_use).collect()
+}
+
+/// The wires as the Rust holds them: wire i stands in face i modulo `faces`.
+fn deal(wires: &[Vec<u32>], faces: usize) -> Vec<Face<()>> {
     let of_face = |face: usize| wires.iter().skip(face).step_by(faces);
     let to_face = |face: usize| Face {
-        boundaries: of_face(face)
-            .map(|wire| wire.iter().map(to_use).collect())
-            .collect(),
+        boundaries: of_face(face).map(|wire| to_wire(wire)).collect(),
         orientation: true,
         surface: (),
     };

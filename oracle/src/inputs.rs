@@ -4,7 +4,8 @@
 use crate::model::{MOST_EDGES, MOST_USES, MOST_VERTICES, MOST_WIRES};
 use crate::random::Random;
 use crate::records::{Curve, Edge, Shell, Vertex};
-use crate::shell::{needed, Lent, EDGE_FLOATS, EDGE_NUMBERS, VERTEX_FLOATS, VERTEX_NUMBERS};
+use crate::shell::{needed, Lent, Tables};
+use crate::shell::{EDGE_FLOATS, EDGE_NUMBERS, VERTEX_FLOATS, VERTEX_NUMBERS};
 
 /// How large a shell shall be.
 pub struct Sizes {
@@ -15,7 +16,7 @@ pub struct Sizes {
 }
 
 /// Sizes from nothing up to the bounds, now and then one past a bound.
-fn any_sizes(random: &mut Random) -> Sizes {
+pub fn any_sizes(random: &mut Random) -> Sizes {
     Sizes {
         vertices: any_size(random, MOST_VERTICES),
         edges: any_size(random, MOST_EDGES),
@@ -25,7 +26,7 @@ fn any_sizes(random: &mut Random) -> Sizes {
 }
 
 /// A size that is mostly small.
-fn any_size(random: &mut Random, most: usize) -> usize {
+pub fn any_size(random: &mut Random, most: usize) -> usize {
     match random.below(64) {
         0 => most,
         1 => most + 1,
@@ -48,6 +49,11 @@ pub fn little_sizes(random: &mut Random) -> Sizes {
 
 /// A shell that no cause turns away, save one that its sizes earn.
 pub fn shell(random: &mut Random, sizes: &Sizes) -> Shell {
+    shell_of(random, sizes, vertex)
+}
+
+/// The same with vertices of a given make.
+pub fn shell_of(random: &mut Random, sizes: &Sizes, vertex: fn(&mut Random) -> Vertex) -> Shell {
     let edges = if sizes.vertices == 0 { 0 } else { sizes.edges };
     let closed_share = random.pick(&[0, 1, 2, 4, 8]);
     Shell {
@@ -60,7 +66,7 @@ pub fn shell(random: &mut Random, sizes: &Sizes) -> Shell {
 }
 
 /// An edge that is closed in so many eighths of all cases, or by chance.
-fn edge(random: &mut Random, vertices: usize, closed_share: usize) -> Edge {
+pub fn edge(random: &mut Random, vertices: usize, closed_share: usize) -> Edge {
     let front = random.below(vertices);
     let back = match random.below(8) < closed_share {
         true => front,
@@ -90,7 +96,7 @@ fn wires(random: &mut Random, sizes: &Sizes, edges: usize) -> Vec<Vec<u32>> {
 }
 
 /// A given or pending vertex.
-fn vertex(random: &mut Random) -> Vertex {
+pub fn vertex(random: &mut Random) -> Vertex {
     if random.once_in(2) {
         return Vertex::Given(float(random), float(random), float(random));
     }
@@ -149,7 +155,7 @@ const CORNERS: [f64; 14] = [
 ];
 
 /// A float of at most 1.0e15 in size.
-fn float(random: &mut Random) -> f64 {
+pub fn float(random: &mut Random) -> f64 {
     match random.below(4) {
         0 => random.pick(&CORNERS),
         1 => random.below(17) as f64 - 8.0,
@@ -212,13 +218,9 @@ pub fn damaged_of(random: &mut Random, sizes: &Sizes) -> Lent {
 }
 
 /// Spoils one thing.
-fn damage(random: &mut Random, lent: &mut Lent) {
+pub fn damage(random: &mut Random, lent: &mut Lent) {
     match random.below(10) {
-        0 => kind(random, lent),
-        1 => spoil_number(random, &mut lent.edge_numbers),
-        2 => spoil_number(random, &mut lent.vertex_numbers),
-        3 => spoil_float(random, &mut lent.edge_floats),
-        4 => spoil_float(random, &mut lent.vertex_floats),
+        cell @ 0..5 => damage_tables(random, &mut lent.tables, cell),
         5 => spoil_number(random, &mut lent.uses),
         6 => spoil_number(random, &mut lent.lengths),
         7 => spoil_count(random, lent),
@@ -228,18 +230,29 @@ fn damage(random: &mut Random, lent: &mut Lent) {
             sizes[short] = sizes[short].saturating_sub(1 + random.below(4));
             lent.shorten(sizes);
         }
-        _ => parameters(random, lent),
+        _ => parameters(random, &mut lent.tables),
+    }
+}
+
+/// Spoils one of five things in the tables.
+pub fn damage_tables(random: &mut Random, tables: &mut Tables, thing: usize) {
+    match thing {
+        0 => kind(random, tables),
+        1 => spoil_number(random, &mut tables.edge_numbers),
+        2 => spoil_number(random, &mut tables.vertex_numbers),
+        3 => spoil_float(random, &mut tables.edge_floats),
+        _ => spoil_float(random, &mut tables.vertex_floats),
     }
 }
 
 /// Spoils a kind cell of some row.
-fn kind(random: &mut Random, lent: &mut Lent) {
+fn kind(random: &mut Random, tables: &mut Tables) {
     let value = random.pick(&[0, 1, 1, 2, 3, u32::MAX]);
     let row = random.below(6);
     let cell = match random.below(3) {
-        0 => lent.edge_numbers.get_mut(row * EDGE_NUMBERS + 2),
-        1 => lent.vertex_numbers.get_mut(row * VERTEX_NUMBERS),
-        _ => lent.vertex_numbers.get_mut(row * VERTEX_NUMBERS + 1),
+        0 => tables.edge_numbers.get_mut(row * EDGE_NUMBERS + 2),
+        1 => tables.vertex_numbers.get_mut(row * VERTEX_NUMBERS),
+        _ => tables.vertex_numbers.get_mut(row * VERTEX_NUMBERS + 1),
     };
     if let Some(cell) = cell {
         *cell = value;
@@ -247,7 +260,7 @@ fn kind(random: &mut Random, lent: &mut Lent) {
 }
 
 /// Spoils some cell of numbers.
-fn spoil_number(random: &mut Random, cells: &mut [u32]) {
+pub fn spoil_number(random: &mut Random, cells: &mut [u32]) {
     if cells.is_empty() {
         return;
     }
@@ -260,7 +273,7 @@ fn spoil_number(random: &mut Random, cells: &mut [u32]) {
 }
 
 /// Spoils some float cell.
-fn spoil_float(random: &mut Random, cells: &mut [u64]) {
+pub fn spoil_float(random: &mut Random, cells: &mut [u64]) {
     if cells.is_empty() {
         return;
     }
@@ -273,7 +286,7 @@ fn spoil_float(random: &mut Random, cells: &mut [u64]) {
 }
 
 /// Floats at and past the edge of what may be handed in.
-const STRANGE: [f64; 8] = [
+pub const STRANGE: [f64; 8] = [
     f64::INFINITY,
     f64::NEG_INFINITY,
     f64::NAN,
@@ -286,14 +299,16 @@ const STRANGE: [f64; 8] = [
 
 /// Spoils one of the counts.
 fn spoil_count(random: &mut Random, lent: &mut Lent) {
+    let Lent { tables, wires, .. } = lent;
+    spoil_one_of(random, [&mut tables.vertices, &mut tables.edges, wires]);
+}
+
+/// Spoils one of some counts.
+pub fn spoil_one_of<const N: usize>(random: &mut Random, mut counts: [&mut usize; N]) {
     let value = random.pick(&COUNTS);
     let near = random.below(3);
-    let count = match random.below(3) {
-        0 => &mut lent.vertices,
-        1 => &mut lent.edges,
-        _ => &mut lent.wires,
-    };
-    *count = match near {
+    let count = &mut counts[random.below(N)];
+    **count = match near {
         0 => count.wrapping_add(1),
         1 => count.saturating_sub(1),
         _ => value,
@@ -301,7 +316,7 @@ fn spoil_count(random: &mut Random, lent: &mut Lent) {
 }
 
 /// Counts at which a product with a row width may wrap, and others.
-const COUNTS: [usize; 12] = [
+pub const COUNTS: [usize; 12] = [
     0,
     1,
     64,
@@ -317,11 +332,15 @@ const COUNTS: [usize; 12] = [
 ];
 
 /// Exchanges t0 and t1 in some row, or moves a pending parameter.
-fn parameters(random: &mut Random, lent: &mut Lent) {
+pub fn parameters(random: &mut Random, tables: &mut Tables) {
     let row = random.below(5);
     let (cells, start, width) = match random.below(3) {
-        0 => (&mut lent.edge_floats, row * EDGE_FLOATS, EDGE_FLOATS),
-        _ => (&mut lent.vertex_floats, row * VERTEX_FLOATS, VERTEX_FLOATS),
+        0 => (&mut tables.edge_floats, row * EDGE_FLOATS, EDGE_FLOATS),
+        _ => (
+            &mut tables.vertex_floats,
+            row * VERTEX_FLOATS,
+            VERTEX_FLOATS,
+        ),
     };
     let Some(cells) = cells.get_mut(start..start + width) else {
         return;
@@ -348,9 +367,12 @@ pub fn noise(random: &mut Random) -> Lent {
         true => (random.below(4) as f64).to_bits(),
         false => random.word(),
     };
-    let numbers = lent.edge_numbers.iter_mut().chain(&mut lent.vertex_numbers);
+    let tables = &mut lent.tables;
+    let numbers = tables.edge_numbers.iter_mut();
+    let numbers = numbers.chain(&mut tables.vertex_numbers);
     numbers.for_each(|cell| *cell = number(random, 2));
-    let floats = lent.edge_floats.iter_mut().chain(&mut lent.vertex_floats);
+    let floats = tables.edge_floats.iter_mut();
+    let floats = floats.chain(&mut tables.vertex_floats);
     floats.for_each(|cell| *cell = float(random));
     lent.uses
         .iter_mut()
@@ -358,11 +380,16 @@ pub fn noise(random: &mut Random) -> Lent {
     lent.lengths
         .iter_mut()
         .for_each(|cell| *cell = number(random, 5));
-    let mut count = || match random.below(6) {
+    let mut count = || any_count(random);
+    (tables.vertices, tables.edges, lent.wires) = (count(), count(), count());
+    lent
+}
+
+/// A small count, or any other.
+pub fn any_count(random: &mut Random) -> usize {
+    match random.below(6) {
         0 => random.pick(&COUNTS),
         1 => random.word() as usize,
         _ => random.below(5),
-    };
-    (lent.vertices, lent.edges, lent.wires) = (count(), count(), count());
-    lent
+    }
 }

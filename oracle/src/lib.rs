@@ -1,12 +1,17 @@
 //! The oracle: every call of the port is held against the unchanged Rust it
 //! was ported from, byte for byte, and against a model of the refusals.
 
+pub mod calls;
+pub mod cells;
 pub mod compare;
+pub mod describe;
 #[cfg(rust_at_hand)]
 pub mod differ;
 #[cfg(rust_at_hand)]
 pub mod healing;
 pub mod inputs;
+#[cfg(library_at_hand)]
+pub mod library;
 pub mod limits;
 pub mod model;
 pub mod port;

@@ -1,20 +1,18 @@
 //! Named inputs at the corners and bounds of the specification, each with its
 //! answer written out by hand.
 
-use crate::compare::Expected;
-use crate::random::Random;
-use crate::records::{wire, Curve, Edge, Shell, Vertex};
-use crate::shell::{needed, Lent, EDGE_FLOATS, EDGE_NUMBERS, VERTEX_FLOATS, VERTEX_NUMBERS};
+mod ways;
 
-/// An input, its name, and what must come of it.
-pub struct Case {
-    pub name: &'static str,
-    pub input: Lent,
-    pub expected: Expected,
-}
+use crate::compare::{Case, Expected};
+use crate::random::Random;
+use crate::records::{Edge, Shell, Vertex};
+use crate::shell::{needed, Lent, Tables};
+use crate::shell::{EDGE_FLOATS, EDGE_NUMBERS, VERTEX_FLOATS, VERTEX_NUMBERS};
+use ways::{ample, done, edge, held, refused, sample, shell, span, spoiled, unharmed, words};
+use ways::{edge_float, edge_number, vertex_float, vertex_number};
 
 /// All cases.
-pub fn cases() -> Vec<Case> {
+pub fn cases() -> Vec<Case<Lent>> {
     [
         worked(),
         vec![k1_cell_by_cell()],
@@ -35,139 +33,6 @@ pub fn cases() -> Vec<Case> {
     .collect()
 }
 
-// --- the ways in which a case is written down ---
-
-/// A span.
-fn span(number: u32, t0: f64, t1: f64) -> Curve {
-    Curve::Span { number, t0, t1 }
-}
-
-/// An edge.
-fn edge(front: u32, back: u32, curve: Curve) -> Edge {
-    Edge { front, back, curve }
-}
-
-/// A shell whose wires are in notation.
-fn shell(vertices: &[Vertex], edges: &[Edge], wires: &[&str]) -> Shell {
-    Shell {
-        vertices: vertices.to_vec(),
-        edges: edges.to_vec(),
-        wires: wires.iter().map(|notation| wire(notation)).collect(),
-    }
-}
-
-/// Buffers with some room behind the given counts.
-fn ample(counts: [usize; 3], wires: usize) -> [usize; 6] {
-    needed(counts, wires).map(|size| size + 5)
-}
-
-/// A shell in buffers of the given lengths.
-fn held(shell: &Shell, sizes: [usize; 6]) -> Lent {
-    Lent::holding(shell, sizes, &mut Random::new(7, 7, 7))
-}
-
-/// A call that is done, and the shell that must stand there afterwards.
-fn done(name: &'static str, before: &Shell, after: &Shell) -> Case {
-    let input = held(before, ample(after.counts(), after.wires.len()));
-    let mut expected = input.clone();
-    expected.write(after);
-    Case {
-        name,
-        input,
-        expected: Expected {
-            answer: 0,
-            counts: after.counts(),
-            after: expected,
-        },
-    }
-}
-
-/// A call that is refused.
-fn refused(name: &'static str, number: i32, input: Lent) -> Case {
-    let expected = Expected::refused(&input, number);
-    Case {
-        name,
-        input,
-        expected,
-    }
-}
-
-/// The sample with one change, for which it is refused.
-fn spoiled(name: &'static str, number: i32, change: impl Fn(&mut Lent)) -> Case {
-    let mut input = sample("").input;
-    change(&mut input);
-    refused(name, number, input)
-}
-
-/// The sample with one change of a cell that is kept as it is.
-fn unharmed(name: &'static str, change: impl Fn(&mut Lent)) -> Case {
-    let mut case = sample(name);
-    change(&mut case.input);
-    change(&mut case.expected.after);
-    case
-}
-
-/// Three vertices, one of each kind, and three edges: an open span, a closed
-/// seam and an unused open span.
-fn sample(name: &'static str) -> Case {
-    let seam = |surface: u32, first: f64, t0: f64, t1: f64| Curve::Seam {
-        surface,
-        p: [first, first + 1.0],
-        q: [first + 2.0, first + 3.0],
-        t0,
-        t1,
-    };
-    let mut vertices = vec![
-        Vertex::Given(1.0, 2.0, 3.0),
-        Vertex::Pending(span(5, 0.0, 2.0), 1.0),
-        Vertex::Pending(seam(6, 0.0, 0.0, 1.0), 0.25),
-    ];
-    let (open, unused) = (span(9, 0.0, 1.0), span(10, -1.0, 3.0));
-    let before = shell(
-        &vertices,
-        &[
-            edge(0, 1, open),
-            edge(1, 1, seam(4, 0.5, 0.0, 1.0)),
-            edge(2, 0, unused),
-        ],
-        &["0+ 1+ 0-", "", "1-"],
-    );
-    vertices.push(Vertex::Pending(seam(4, 0.5, 0.0, 1.0), 0.5));
-    let after = shell(
-        &vertices,
-        &[
-            edge(0, 1, open),
-            edge(1, 3, seam(4, 0.5, 0.0, 0.5)),
-            edge(2, 0, unused),
-            edge(3, 1, seam(4, 0.5, 0.5, 1.0)),
-        ],
-        &["0+ 1+ 3+ 0-", "", "3- 1-"],
-    );
-    done(name, &before, &after)
-}
-
-/// Sets a number cell of an edge of the sample.
-fn edge_number(row: usize, cell: usize, value: u32) -> impl Fn(&mut Lent) {
-    move |lent| lent.edge_numbers[row * EDGE_NUMBERS + cell] = value
-}
-
-/// Sets a float cell of an edge of the sample.
-fn edge_float(row: usize, cell: usize, value: f64) -> impl Fn(&mut Lent) {
-    move |lent| lent.edge_floats[row * EDGE_FLOATS + cell] = value.to_bits()
-}
-
-/// Sets a number cell of a vertex of the sample.
-fn vertex_number(row: usize, cell: usize, value: u32) -> impl Fn(&mut Lent) {
-    move |lent| lent.vertex_numbers[row * VERTEX_NUMBERS + cell] = value
-}
-
-/// Sets a float cell of a vertex of the sample.
-fn vertex_float(row: usize, cell: usize, value: f64) -> impl Fn(&mut Lent) {
-    move |lent| lent.vertex_floats[row * VERTEX_FLOATS + cell] = value.to_bits()
-}
-
-// --- the cases ---
-
 /// K1's one vertex.
 const ORIGIN: Vertex = Vertex::Given(0.0, 0.0, 0.0);
 
@@ -183,7 +48,7 @@ fn ring(before: &[&str], after: &[&str]) -> (Shell, Shell) {
 }
 
 /// The worked examples.
-pub fn worked() -> Vec<Case> {
+pub fn worked() -> Vec<Case<Lent>> {
     let ring_case = |name, before: &[&str], after: &[&str]| {
         let (before, after) = ring(before, after);
         done(name, &before, &after)
@@ -199,7 +64,7 @@ pub fn worked() -> Vec<Case> {
             input: nothing.clone(),
             expected: Expected {
                 answer: 0,
-                counts: [0, 0, 0],
+                out: words([0, 0, 0]),
                 after: nothing,
             },
         },
@@ -211,7 +76,7 @@ pub fn worked() -> Vec<Case> {
 }
 
 /// Two closed edges and an open one between their vertices.
-fn two_rings() -> Case {
+fn two_rings() -> Case<Lent> {
     let (first, second) = (span(7, 0.0, 8.0), span(8, 1.0, 2.0));
     let bridge = edge(0, 1, span(9, 0.0, 1.0));
     let before = shell(
@@ -245,48 +110,53 @@ fn bits(floats: &[f64]) -> Vec<u64> {
 
 /// K1 with each cell written out, in buffers of just the result's length.
 /// The cells that hold 77 belong to no record.
-fn k1_cell_by_cell() -> Case {
+fn k1_cell_by_cell() -> Case<Lent> {
     let input = Lent {
-        vertex_numbers: vec![0, 77, 77, 77, 77, 77],
-        vertex_floats: bits(&[
-            0.0, 0.0, 0.0, 77.0, 77.0, 77.0, 77.0, 77.0, 77.0, 77.0, 77.0, 77.0, 77.0, 77.0,
-        ]),
-        edge_numbers: vec![0, 0, 0, 7, 77, 77, 77, 77],
-        edge_floats: bits(&[
-            77.0, 77.0, 77.0, 77.0, 0.0, 8.0, 77.0, 77.0, 77.0, 77.0, 77.0, 77.0,
-        ]),
+        tables: Tables {
+            vertex_numbers: vec![0, 77, 77, 77, 77, 77],
+            vertex_floats: bits(&[
+                0.0, 0.0, 0.0, 77.0, 77.0, 77.0, 77.0, 77.0, 77.0, 77.0, 77.0, 77.0, 77.0, 77.0,
+            ]),
+            edge_numbers: vec![0, 0, 0, 7, 77, 77, 77, 77],
+            edge_floats: bits(&[
+                77.0, 77.0, 77.0, 77.0, 0.0, 8.0, 77.0, 77.0, 77.0, 77.0, 77.0, 77.0,
+            ]),
+            vertices: 1,
+            edges: 1,
+        },
         uses: vec![0, 77],
         lengths: vec![1],
-        vertices: 1,
-        edges: 1,
         wires: 1,
     };
     let after = Lent {
-        vertex_numbers: vec![0, 77, 77, 1, 0, 7],
-        vertex_floats: bits(&[
-            0.0, 0.0, 0.0, 77.0, 77.0, 77.0, 77.0, 77.0, 77.0, 77.0, 77.0, 0.0, 8.0, 4.0,
-        ]),
-        edge_numbers: vec![0, 1, 0, 7, 1, 0, 0, 7],
-        edge_floats: bits(&[
-            77.0, 77.0, 77.0, 77.0, 0.0, 4.0, 77.0, 77.0, 77.0, 77.0, 4.0, 8.0,
-        ]),
+        tables: Tables {
+            vertex_numbers: vec![0, 77, 77, 1, 0, 7],
+            vertex_floats: bits(&[
+                0.0, 0.0, 0.0, 77.0, 77.0, 77.0, 77.0, 77.0, 77.0, 77.0, 77.0, 0.0, 8.0, 4.0,
+            ]),
+            edge_numbers: vec![0, 1, 0, 7, 1, 0, 0, 7],
+            edge_floats: bits(&[
+                77.0, 77.0, 77.0, 77.0, 0.0, 4.0, 77.0, 77.0, 77.0, 77.0, 4.0, 8.0,
+            ]),
+            ..input.tables.clone()
+        },
         uses: vec![0, 2],
         lengths: vec![2],
-        ..input.clone()
+        wires: 1,
     };
     Case {
         name: "K1 cell by cell",
         input,
         expected: Expected {
             answer: 0,
-            counts: [2, 2, 2],
+            out: words([2, 2, 2]),
             after,
         },
     }
 }
 
 /// Where the middle of a range lies.
-fn middles() -> Vec<Case> {
+fn middles() -> Vec<Case<Lent>> {
     let cut = |name, t0: f64, middle: f64, t1: f64| {
         let whole = span(7, t0, t1);
         let before = shell(&[ORIGIN], &[edge(0, 0, whole)], &["0+"]);
@@ -312,7 +182,7 @@ fn middles() -> Vec<Case> {
 }
 
 /// Tables that are filled to their bounds.
-fn full_tables() -> Vec<Case> {
+fn full_tables() -> Vec<Case<Lent>> {
     let open = edge(0, 1, span(3, 0.0, 2.0));
     let closed = edge(1, 1, span(3, 0.0, 2.0));
     let wide = |vertices: usize, edges: &[Edge]| shell(&vec![ORIGIN; vertices], edges, &["0+"]);
@@ -336,7 +206,7 @@ fn full_tables() -> Vec<Case> {
 }
 
 /// Uses and wires at their bounds.
-fn use_counts() -> Vec<Case> {
+fn use_counts() -> Vec<Case<Lent>> {
     let ring_of = |uses: usize| ring(&[&"0+ ".repeat(uses)], &[&"0+ 1+ ".repeat(uses)]);
     let (fits, fitting) = ring_of(512);
     let plenty = [100, 100, 100, 100, 4000, 100];
@@ -360,7 +230,7 @@ fn use_counts() -> Vec<Case> {
 }
 
 /// Kind cells that hold no known kind.
-fn kinds() -> Vec<Case> {
+fn kinds() -> Vec<Case<Lent>> {
     vec![
         spoiled("kind 2 in an edge row", 1, edge_number(0, 2, 2)),
         spoiled("kind 2 in an unused edge row", 1, edge_number(2, 2, 2)),
@@ -376,13 +246,13 @@ fn kinds() -> Vec<Case> {
             // Row 3 becomes the new edge, so its kind is written over; the
             // cells past row 3 are kept.
             let place = 4 * EDGE_NUMBERS + 2;
-            lent.edge_numbers[place] = 2;
+            lent.tables.edge_numbers[place] = 2;
         }),
     ]
 }
 
 /// Vertex and edge numbers at and past the counts.
-fn numbers() -> Vec<Case> {
+fn numbers() -> Vec<Case<Lent>> {
     vec![
         spoiled("front at the vertex count", 2, edge_number(0, 0, 3)),
         spoiled("back at the vertex count", 2, edge_number(0, 1, 3)),
@@ -391,10 +261,10 @@ fn numbers() -> Vec<Case> {
             edge_number(1, 0, 4)(lent);
             edge_number(1, 1, 4)(lent);
         }),
-        spoiled("no vertices", 2, |lent| lent.vertices = 0),
+        spoiled("no vertices", 2, |lent| lent.tables.vertices = 0),
         spoiled("use at the edge count", 3, |lent| lent.uses[0] = 6),
         spoiled("largest use", 3, |lent| lent.uses[3] = u32::MAX),
-        spoiled("no edges", 3, |lent| lent.edges = 0),
+        spoiled("no edges", 3, |lent| lent.tables.edges = 0),
         unharmed("largest use past the wires", |lent| {
             lent.uses[7] = u32::MAX;
         }),
@@ -402,7 +272,7 @@ fn numbers() -> Vec<Case> {
 }
 
 /// Floats that are not numbers or too large.
-fn floats() -> Vec<Case> {
+fn floats() -> Vec<Case<Lent>> {
     let nan = f64::NAN;
     let above = f64::next_up(1.0e15);
     vec![
@@ -426,7 +296,7 @@ fn floats() -> Vec<Case> {
 }
 
 /// Parameters out of order.
-fn parameters() -> Vec<Case> {
+fn parameters() -> Vec<Case<Lent>> {
     vec![
         spoiled("unused edge, t0 above t1", 5, edge_float(2, 4, 3.5)),
         spoiled("used edge, t0 above t1", 5, edge_float(0, 5, -0.5)),
@@ -440,27 +310,33 @@ fn parameters() -> Vec<Case> {
 }
 
 /// Counts above what was lent.
-fn counts() -> Vec<Case> {
+fn counts() -> Vec<Case<Lent>> {
     let most = usize::MAX;
     vec![
-        spoiled("largest vertex count", 1, move |lent| lent.vertices = most),
-        spoiled("largest edge count", 1, move |lent| lent.edges = most),
+        spoiled("largest vertex count", 1, move |lent| {
+            lent.tables.vertices = most
+        }),
+        spoiled("largest edge count", 1, move |lent| {
+            lent.tables.edges = most
+        }),
         spoiled("largest wire count", 1, move |lent| lent.wires = most),
         spoiled("all counts the largest", 1, move |lent| {
-            (lent.vertices, lent.edges, lent.wires) = (most, most, most);
+            (lent.tables.vertices, lent.tables.edges, lent.wires) = (most, most, most);
         }),
-        spoiled("edge count whose rows wrap", 1, |lent| lent.edges = 1 << 62),
+        spoiled("edge count whose rows wrap", 1, |lent| {
+            lent.tables.edges = 1 << 62
+        }),
         spoiled("one vertex row too few", 1, |lent| {
-            lent.vertex_numbers.truncate(3 * VERTEX_NUMBERS - 1);
+            lent.tables.vertex_numbers.truncate(3 * VERTEX_NUMBERS - 1);
         }),
         spoiled("one vertex float too few", 1, |lent| {
-            lent.vertex_floats.truncate(3 * VERTEX_FLOATS - 1);
+            lent.tables.vertex_floats.truncate(3 * VERTEX_FLOATS - 1);
         }),
         spoiled("one edge number too few", 1, |lent| {
-            lent.edge_numbers.truncate(3 * EDGE_NUMBERS - 1);
+            lent.tables.edge_numbers.truncate(3 * EDGE_NUMBERS - 1);
         }),
         spoiled("one edge float too few", 1, |lent| {
-            lent.edge_floats.truncate(3 * EDGE_FLOATS - 1);
+            lent.tables.edge_floats.truncate(3 * EDGE_FLOATS - 1);
         }),
         spoiled("one use too few", 1, |lent| lent.uses.truncate(3)),
         spoiled("one length too few", 1, |lent| lent.lengths.truncate(2)),
@@ -468,7 +344,7 @@ fn counts() -> Vec<Case> {
 }
 
 /// Wire lengths whose sum is too large.
-fn lengths() -> Vec<Case> {
+fn lengths() -> Vec<Case<Lent>> {
     let long = |name, wires: usize, length: u32| {
         spoiled(name, 1, move |lent| {
             lent.uses.resize(1024, 0);
@@ -484,7 +360,7 @@ fn lengths() -> Vec<Case> {
 }
 
 /// Buffers that hold the input and are one cell too short for the result.
-fn room() -> Vec<Case> {
+fn room() -> Vec<Case<Lent>> {
     let names = [
         "no room for a vertex number",
         "no room for a vertex float",
@@ -502,13 +378,13 @@ fn room() -> Vec<Case> {
     let mut exact = sample("just enough room");
     exact.input.shorten(needed([4, 4, 6], 3));
     exact.expected.after.shorten(needed([4, 4, 6], 3));
-    let mut cases: Vec<Case> = names.into_iter().enumerate().map(short).collect();
+    let mut cases: Vec<Case<Lent>> = names.into_iter().enumerate().map(short).collect();
     cases.push(exact);
     cases
 }
 
 /// Two causes at once: the lower number wins.
-fn lowest() -> Vec<Case> {
+fn lowest() -> Vec<Case<Lent>> {
     let both = |name, number, first: &dyn Fn(&mut Lent), second: &dyn Fn(&mut Lent)| {
         let mut input = sample("").input;
         first(&mut input);

@@ -1,15 +1,15 @@
 //! The command line of the oracle.
 //!
-//!     oracle differ [--seed N] [--calls N] [--groups A,B] [--port P] [--stored FILE]
+//!     oracle differ [--seed N] [--calls N] [--groups A,B] [--only A,B] [--port P] [--stored FILE]
 //!     oracle store FILE
 //!     oracle replay FILE [--port P]
 //!
 //! P is `library`, the archive that was found at build time, or `reference`,
 //! the plain implementation of this crate. Groups are `limits`, `small`,
-//! `random`, `damaged` and `noise`. Any difference makes the exit status 1; a
-//! run that cannot be made, 2.
+//! `random`, `damaged` and `noise`; `--only` names calls. Any difference makes
+//! the exit status 1; a run that cannot be made, 2.
 
-use oracle::compare::{describe, Tally};
+use oracle::compare::Tally;
 use oracle::port::Port;
 use oracle::reference::Reference;
 use oracle::stored;
@@ -19,7 +19,7 @@ use std::process::ExitCode;
 const STORED: &str = concat!(env!("CARGO_MANIFEST_DIR"), "/../crates/replay/stdin");
 
 /// How the program is called.
-const USAGE: &str = "oracle differ [--seed N] [--calls N] [--groups A,B] \
+const USAGE: &str = "oracle differ [--seed N] [--calls N] [--groups A,B] [--only A,B] \
 [--port library|reference] [--stored FILE] | store FILE | replay FILE";
 
 fn main() -> ExitCode {
@@ -39,6 +39,7 @@ struct Options {
     seed: u64,
     calls: usize,
     groups: Option<String>,
+    only: Option<String>,
     port: String,
     stored: String,
     place: Option<String>,
@@ -62,6 +63,7 @@ fn options(words: &[String]) -> Result<Options, String> {
         seed: 1,
         calls: 20_000,
         groups: None,
+        only: None,
         port: "library".into(),
         stored: STORED.into(),
         place: None,
@@ -74,6 +76,7 @@ fn options(words: &[String]) -> Result<Options, String> {
             "--seed" => options.seed = number(value()?)?,
             "--calls" => options.calls = number(value()?)? as usize,
             "--groups" => options.groups = Some(value()?),
+            "--only" => options.only = Some(value()?),
             "--port" => options.port = value()?,
             "--stored" => options.stored = value()?,
             place if !place.starts_with('-') && options.place.is_none() => {
@@ -90,35 +93,56 @@ fn port(name: &str) -> Result<Box<dyn Port>, String> {
     match name {
         "reference" => Ok(Box::new(Reference::default())),
         #[cfg(library_at_hand)]
-        "library" => Ok(Box::new(oracle::port::Library)),
+        "library" => Ok(Box::new(oracle::library::Library)),
         #[cfg(not(library_at_hand))]
         "library" => Err("the library libhealing.a is not at hand".into()),
         _ => Err(USAGE.into()),
     }
 }
 
-/// Runs the groups against the Rust.
+/// Runs the groups of all calls against the Rust.
 #[cfg(rust_at_hand)]
 fn differ(options: &Options) -> Result<bool, String> {
-    use oracle::differ::{run, Plan};
+    use oracle::differ::Plan;
     let port = port(&options.port)?;
     let plan = Plan {
         seed: options.seed,
         calls: options.calls,
         hasty: false,
     };
-    let mut answers = std::collections::BTreeSet::new();
     let mut same = true;
-    for group in groups(options)? {
-        let tally = run(port.as_ref(), group, plan);
-        same &= report(group.name(), &tally, options.seed);
-        answers.extend(tally.answers.into_keys());
+    for call in calls(options)? {
+        if !port.has(call.name) {
+            println!("{}: not in this library, not run", call.name);
+            continue;
+        }
+        let mut whole = Tally::default();
+        for group in groups(options)? {
+            let tally = (call.run)(port.as_ref(), group, plan);
+            same &= report(call.name, group.name(), &tally, options.seed);
+            whole.count(&tally);
+        }
+        let unseen = (call.unseen)(&whole).join(", ");
+        if !unseen.is_empty() {
+            println!("{}: answers never seen: {unseen}", call.name);
+            same &= options.groups.is_some();
+        }
     }
-    let unseen: Vec<i32> = (0..=6).filter(|answer| !answers.contains(answer)).collect();
-    if !unseen.is_empty() {
-        println!("split_closed_edges: answers never seen: {unseen:?}");
-    }
-    Ok(same && (unseen.is_empty() || options.groups.is_some()))
+    Ok(same)
+}
+
+/// The calls that were asked for, or all.
+#[cfg(rust_at_hand)]
+fn calls(options: &Options) -> Result<Vec<oracle::differ::Runner>, String> {
+    use oracle::differ::CALLS;
+    let Some(names) = &options.only else {
+        return Ok(CALLS.to_vec());
+    };
+    let named = |name: &str| CALLS.into_iter().find(|call| call.name == name);
+    names
+        .split(',')
+        .map(|name| named(name).ok_or(format!("{name} is no call")))
+        .collect()
 }
 
 /// The groups that were asked for, or all.
@@ -162,16 +186,24 @@ fn store(_place: &str) -> Result<bool, String> {
 fn replay(options: &Options, place: &str) -> Result<bool, String> {
     let port = port(&options.port)?;
     let bytes = std::fs::read(place).map_err(|why| format!("{place}: {why}"))?;
-    let tally = stored::replay(port.as_ref(), &bytes)?;
-    Ok(report("stored", &tally, options.seed))
+    let tallies = stored::replay(port.as_ref(), &bytes)?;
+    let mut same = true;
+    for (call, tally) in &tallies {
+        if !port.has(call) {
+            println!("{call}: not in this library, not replayed");
+            continue;
+        }
+        same &= report(call, "stored", tally, options.seed);
+    }
+    Ok(same)
 }
 
 /// Prints what came of a group; whether nothing differed.
-fn report(group: &str, tally: &Tally, seed: u64) -> bool {
-    println!("{}", tally.line(group));
+fn report(call: &str, group: &str, tally: &Tally, seed: u64) -> bool {
+    println!("{}", tally.line(call, group));
     if let Some(found) = &tally.smallest {
         println!("  seed {seed}, index {}: {}", found.index, found.what);
-        print!("  {}", describe(&found.input));
+        print!("  {}", found.input);
     }
     tally.differences == 0
 }

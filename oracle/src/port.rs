@@ -1,10 +1,69 @@
-//! The calls under test, and the library that answers them through C.
+//! The calls under test, as an implementation of them is handed its input.
+//! Floats are handed over as their bits; `out` holds the out places of a call.
 
-use crate::shell::Lent;
+use crate::shell::{Lent, Tables};
 
-/// What one call of `split_closed_edges` is lent. Float cells are handed over
-/// as their bits. `out` has three places: vertices, edges and uses.
-pub struct Call<'a> {
+/// The two tables as a call reads them.
+#[derive(Clone, Copy)]
+pub struct Rows<'a> {
+    pub vertex_numbers: &'a [u32],
+    pub vertex_floats: &'a [u64],
+    pub edge_numbers: &'a [u32],
+    pub edge_floats: &'a [u64],
+    pub vertices: usize,
+    pub edges: usize,
+}
+
+impl Tables {
+    /// The tables, lent to be read.
+    pub fn rows(&self) -> Rows<'_> {
+        Rows {
+            vertex_numbers: &self.vertex_numbers,
+            vertex_floats: &self.vertex_floats,
+            edge_numbers: &self.edge_numbers,
+            edge_floats: &self.edge_floats,
+            vertices: self.vertices,
+            edges: self.edges,
+        }
+    }
+}
+
+impl Rows<'_> {
+    /// A copy of the tables.
+    pub fn copy(&self) -> Tables {
+        Tables {
+            vertex_numbers: self.vertex_numbers.to_vec(),
+            vertex_floats: self.vertex_floats.to_vec(),
+            edge_numbers: self.edge_numbers.to_vec(),
+            edge_floats: self.edge_floats.to_vec(),
+            vertices: self.vertices,
+            edges: self.edges,
+        }
+    }
+}
+
+/// Wires as a call reads them.
+#[derive(Clone, Copy)]
+pub struct Wires<'a> {
+    pub uses: &'a [u32],
+    pub lengths: &'a [u32],
+    pub wires: usize,
+}
+
+impl Lent {
+    /// The wires, lent to be read.
+    pub fn wires(&self) -> Wires<'_> {
+        Wires {
+            uses: &self.uses,
+            lengths: &self.lengths,
+            wires: self.wires,
+        }
+    }
+}
+
+/// What one call of `split_closed_edges` is lent. `out` has three places:
+/// vertices, edges and uses.
+pub struct Pass<'a> {
     pub vertex_numbers: &'a mut [u32],
     pub vertex_floats: &'a mut [u64],
     pub edge_numbers: &'a mut [u32],
@@ -17,10 +76,10 @@ pub struct Call<'a> {
     pub out: &'a mut [usize],
 }
 
-impl Call<'_> {
+impl Pass<'_> {
     /// The same call, lent on for a while.
-    pub fn again(&mut self) -> Call<'_> {
-        Call {
+    pub fn again(&mut self) -> Pass<'_> {
+        Pass {
             vertex_numbers: self.vertex_numbers,
             vertex_floats: self.vertex_floats,
             edge_numbers: self.edge_numbers,
@@ -32,85 +91,115 @@ impl Call<'_> {
         }
     }
 
+    /// The tables, lent on to be read.
+    pub fn rows(&self) -> Rows<'_> {
+        Rows {
+            vertex_numbers: self.vertex_numbers,
+            vertex_floats: self.vertex_floats,
+            edge_numbers: self.edge_numbers,
+            edge_floats: self.edge_floats,
+            vertices: self.vertices,
+            edges: self.edges,
+        }
+    }
+
+    /// The wires, lent on to be read.
+    pub fn wires(&self) -> Wires<'_> {
+        Wires {
+            uses: self.uses,
+            lengths: self.lengths,
+            wires: self.wires,
+        }
+    }
+
     /// A copy of what is lent.
     pub fn copy(&self) -> Lent {
         Lent {
-            vertex_numbers: self.vertex_numbers.to_vec(),
-            vertex_floats: self.vertex_floats.to_vec(),
-            edge_numbers: self.edge_numbers.to_vec(),
-            edge_floats: self.edge_floats.to_vec(),
+            tables: self.rows().copy(),
             uses: self.uses.to_vec(),
             lengths: self.lengths.to_vec(),
-            vertices: self.vertices,
-            edges: self.edges,
             wires: self.wires,
         }
     }
 }
 
-/// An implementation that can be held against the Rust.
+/// A period: its kind (0 absent, 1 there) and its size, which is no input
+/// where the period is absent.
+#[derive(Clone, Copy, Debug, PartialEq, Eq)]
+pub struct Period {
+    pub kind: u32,
+    pub size: u64,
+}
+
+/// What one call of `get_mindiff` is handed.
+#[derive(Clone, Copy, Debug, PartialEq, Eq)]
+pub struct Unwrap {
+    pub u: u64,
+    pub u0: u64,
+    pub period: Period,
+}
+
+/// What one call of `nearest_copy` is handed: the copies of `q` are held
+/// against `p`, each a point u, v with a period for either.
+#[derive(Clone, Copy, Debug, PartialEq, Eq)]
+pub struct NearestCopy {
+    pub p: [u64; 2],
+    pub q: [u64; 2],
+    pub periods: [Period; 2],
+}
+
+/// What one call of `boundary_type` is handed: the ends of a wire as u, v,
+/// and its area.
+#[derive(Clone, Copy, Debug, PartialEq, Eq)]
+pub struct WireEnds {
+    pub first: [u64; 2],
+    pub last: [u64; 2],
+    pub area: u64,
+}
+
+/// What one call of `sort_wires` is lent: rows of five floats, and places for
+/// the numbers of the open and of the closed wires. `out` has one place.
+pub struct Sort<'a> {
+    pub ends: &'a [u64],
+    pub wires: usize,
+    pub open: &'a mut [u32],
+    pub closed: &'a mut [u32],
+    pub out: &'a mut [usize],
+}
+
+/// What one call of `nearest_correction` is lent: the tables and two rows of
+/// uses with their counts. `out` has two places.
+pub struct Nearest<'a> {
+    pub rows: Rows<'a>,
+    pub first: &'a [u32],
+    pub second: &'a [u32],
+    pub first_count: usize,
+    pub second_count: usize,
+    pub v0: u32,
+    pub out: &'a mut [u32],
+}
+
+/// What one call of `find_non_simple_wire_divisor` is lent. `out` has two
+/// places.
+pub struct Search<'a> {
+    pub rows: Rows<'a>,
+    pub wires: Wires<'a>,
+    pub out: &'a mut [u32],
+}
+
+/// An implementation that can be held against the Rust. Each call answers 0
+/// where its result is written, -1 for "none", else the refusal's number.
 pub trait Port {
-    /// 0 where the call is done, else the number of the refusal.
-    fn split_closed_edges(&self, call: Call<'_>) -> i32;
-}
-
-/// The archive that was found when this crate was built.
-#[cfg(library_at_hand)]
-pub struct Library;
-
-#[cfg(library_at_hand)]
-extern "C" {
-    fn kaugrenna_split_closed_edges(
-        vertex_numbers: *mut u32,
-        vertex_numbers_len: usize,
-        vertex_floats: *mut f64,
-        vertex_floats_len: usize,
-        edge_numbers: *mut u32,
-        edge_numbers_len: usize,
-        edge_floats: *mut f64,
-        edge_floats_len: usize,
-        uses: *mut u32,
-        uses_len: usize,
-        lengths: *mut u32,
-        lengths_len: usize,
-        vertices: usize,
-        edges: usize,
-        wires: usize,
-        vertices_out: *mut usize,
-        edges_out: *mut usize,
-        uses_out: *mut usize,
-    ) -> i32;
-}
-
-#[cfg(library_at_hand)]
-impl Port for Library {
-    fn split_closed_edges(&self, call: Call<'_>) -> i32 {
-        let [vertices_out, edges_out, uses_out] = call.out else {
-            panic!("three places for the counts");
-        };
-        // SAFETY: each pointer comes from a slice of the length beside it,
-        // none overlaps another, and 64 bits are aligned alike for both types.
-        unsafe {
-            kaugrenna_split_closed_edges(
-                call.vertex_numbers.as_mut_ptr(),
-                call.vertex_numbers.len(),
-                call.vertex_floats.as_mut_ptr().cast(),
-                call.vertex_floats.len(),
-                call.edge_numbers.as_mut_ptr(),
-                call.edge_numbers.len(),
-                call.edge_floats.as_mut_ptr().cast(),
-                call.edge_floats.len(),
-                call.uses.as_mut_ptr(),
-                call.uses.len(),
-                call.lengths.as_mut_ptr(),
-                call.lengths.len(),
-                call.vertices,
-                call.edges,
-                call.wires,
-                vertices_out,
-                edges_out,
-                uses_out,
-            )
-        }
+    /// Whether the call of this name is there at all.
+    fn has(&self, _name: &str) -> bool {
+        true
     }
+
+    fn split_closed_edges(&self, call: Pass<'_>) -> i32;
+    fn get_mindiff(&self, call: Unwrap, out: &mut [u64]) -> i32;
+    fn nearest_copy(&self, call: NearestCopy, out: &mut [u64]) -> i32;
+    fn boundary_type(&self, call: WireEnds, out: &mut [u32]) -> i32;
+    fn sort_wires(&self, call: Sort<'_>) -> i32;
+    fn nearest_correction(&self, call: Nearest<'_>) -> i32;
+    fn find_non_simple_wire_divisor(&self, call: Search<'_>) -> i32;
 }

@@ -24,17 +24,24 @@ pub const NAMES: [&str; 6] = [
     "lengths",
 ];
 
-/// What a call is lent: six buffers and three counts.
+/// What a call is lent of the two tables: four buffers and two counts.
 #[derive(Clone, Debug, PartialEq, Eq)]
-pub struct Lent {
+pub struct Tables {
     pub vertex_numbers: Vec<u32>,
     pub vertex_floats: Vec<u64>,
     pub edge_numbers: Vec<u32>,
     pub edge_floats: Vec<u64>,
-    pub uses: Vec<u32>,
-    pub lengths: Vec<u32>,
     pub vertices: usize,
     pub edges: usize,
+}
+
+/// What a call over wires is lent: the tables, two buffers more, and the
+/// count of the wires.
+#[derive(Clone, Debug, PartialEq, Eq)]
+pub struct Lent {
+    pub tables: Tables,
+    pub uses: Vec<u32>,
+    pub lengths: Vec<u32>,
     pub wires: usize,
 }
 
@@ -50,30 +57,100 @@ pub fn needed([vertices, edges, uses]: [usize; 3], wires: usize) -> [usize; 6] {
     ]
 }
 
-impl Lent {
-    /// The lengths of the six buffers.
-    pub fn sizes(&self) -> [usize; 6] {
+impl Tables {
+    /// The lengths of the four buffers.
+    pub fn sizes(&self) -> [usize; 4] {
         [
             self.vertex_numbers.len(),
             self.vertex_floats.len(),
             self.edge_numbers.len(),
             self.edge_floats.len(),
-            self.uses.len(),
-            self.lengths.len(),
+        ]
+    }
+
+    /// Buffers of the given lengths that hold poison, with no count set.
+    pub fn poisoned(sizes: [usize; 4], random: &mut Random) -> Tables {
+        Tables {
+            vertex_numbers: numbers_poison(sizes[0], random),
+            vertex_floats: (0..sizes[1]).map(|_| float_poison(random)).collect(),
+            edge_numbers: numbers_poison(sizes[2], random),
+            edge_floats: (0..sizes[3]).map(|_| float_poison(random)).collect(),
+            vertices: 0,
+            edges: 0,
+        }
+    }
+
+    /// Drops the cells past the given lengths.
+    pub fn shorten(&mut self, sizes: [usize; 4]) {
+        self.vertex_numbers.truncate(sizes[0]);
+        self.vertex_floats.truncate(sizes[1]);
+        self.edge_numbers.truncate(sizes[2]);
+        self.edge_floats.truncate(sizes[3]);
+    }
+
+    /// Writes the records over the rows from 0 on. Cells that a record of its
+    /// kind does not have, and all cells behind, keep what they hold.
+    pub fn write(&mut self, vertices: &[Vertex], edges: &[Edge]) {
+        for (row, vertex) in vertices.iter().enumerate() {
+            let numbers = &mut self.vertex_numbers[row * VERTEX_NUMBERS..][..VERTEX_NUMBERS];
+            let floats = &mut self.vertex_floats[row * VERTEX_FLOATS..][..VERTEX_FLOATS];
+            write_vertex(vertex, numbers, floats);
+        }
+        for (row, edge) in edges.iter().enumerate() {
+            let numbers = &mut self.edge_numbers[row * EDGE_NUMBERS..][..EDGE_NUMBERS];
+            let floats = &mut self.edge_floats[row * EDGE_FLOATS..][..EDGE_FLOATS];
+            write_edge(edge, numbers, floats);
+        }
+    }
+
+    /// The vertex of a row.
+    pub fn vertex(&self, row: usize) -> Vertex {
+        let numbers = &self.vertex_numbers[row * VERTEX_NUMBERS..][..VERTEX_NUMBERS];
+        let floats = &self.vertex_floats[row * VERTEX_FLOATS..][..VERTEX_FLOATS];
+        read_vertex(numbers, floats)
+    }
+
+    /// The edge of a row.
+    pub fn edge(&self, row: usize) -> Edge {
+        let numbers = &self.edge_numbers[row * EDGE_NUMBERS..][..EDGE_NUMBERS];
+        let floats = &self.edge_floats[row * EDGE_FLOATS..][..EDGE_FLOATS];
+        read_edge(numbers, floats)
+    }
+
+    /// The vertices below the count.
+    pub fn vertices(&self) -> Vec<Vertex> {
+        (0..self.vertices).map(|row| self.vertex(row)).collect()
+    }
+
+    /// The edges below the count.
+    pub fn edges(&self) -> Vec<Edge> {
+        (0..self.edges).map(|row| self.edge(row)).collect()
+    }
+}
+
+impl Lent {
+    /// The lengths of the six buffers.
+    pub fn sizes(&self) -> [usize; 6] {
+        let [vertex_numbers, vertex_floats, edge_numbers, edge_floats] = self.tables.sizes();
+        let (uses, lengths) = (self.uses.len(), self.lengths.len());
+        [
+            vertex_numbers,
+            vertex_floats,
+            edge_numbers,
+            edge_floats,
+            uses,
+            lengths,
         ]
     }
 
     /// Buffers of the given lengths that hold poison, with no count set.
     pub fn poisoned(sizes: [usize; 6], random: &mut Random) -> Lent {
+        let [vertex_numbers, vertex_floats, edge_numbers, edge_floats, uses, lengths] = sizes;
+        let of_tables = [vertex_numbers, vertex_floats, edge_numbers, edge_floats];
         Lent {
-            vertex_numbers: (0..sizes[0]).map(|_| number_poison(random)).collect(),
-            vertex_floats: (0..sizes[1]).map(|_| float_poison(random)).collect(),
-            edge_numbers: (0..sizes[2]).map(|_| number_poison(random)).collect(),
-            edge_floats: (0..sizes[3]).map(|_| float_poison(random)).collect(),
-            uses: (0..sizes[4]).map(|_| number_poison(random)).collect(),
-            lengths: (0..sizes[5]).map(|_| number_poison(random)).collect(),
-            vertices: 0,
-            edges: 0,
+            tables: Tables::poisoned(of_tables, random),
+            uses: numbers_poison(uses, random),
+            lengths: numbers_poison(lengths, random),
             wires: 0,
         }
     }
@@ -89,26 +166,23 @@ impl Lent {
         let mut lent = Lent::poisoned(ample, random);
         lent.write(shell);
         lent.shorten(sizes);
-        lent.vertices = shell.vertices.len();
-        lent.edges = shell.edges.len();
+        lent.tables.vertices = shell.vertices.len();
+        lent.tables.edges = shell.edges.len();
         lent.wires = shell.wires.len();
         lent
     }
 
     /// Drops the cells past the given lengths.
     pub fn shorten(&mut self, sizes: [usize; 6]) {
-        self.vertex_numbers.truncate(sizes[0]);
-        self.vertex_floats.truncate(sizes[1]);
-        self.edge_numbers.truncate(sizes[2]);
-        self.edge_floats.truncate(sizes[3]);
-        self.uses.truncate(sizes[4]);
-        self.lengths.truncate(sizes[5]);
+        let [vertex_numbers, vertex_floats, edge_numbers, edge_floats, uses, lengths] = sizes;
+        let of_tables = [vertex_numbers, vertex_floats, edge_numbers, edge_floats];
+        self.tables.shorten(of_tables);
+        self.uses.truncate(uses);
+        self.lengths.truncate(lengths);
     }
 
     /// The records below the counts. Only for an input that is not refused.
     pub fn read(&self) -> Shell {
-        let vertices = (0..self.vertices).map(|row| self.vertex(row)).collect();
-        let edges = (0..self.edges).map(|row| self.edge(row)).collect();
         let mut rest = &self.uses[..];
         let mut wires = Vec::new();
         for &length in &self.lengths[..self.wires] {
@@ -117,45 +191,22 @@ impl Lent {
             rest = behind;
         }
         Shell {
-            vertices,
-            edges,
+            vertices: self.tables.vertices(),
+            edges: self.tables.edges(),
             wires,
         }
     }
 
-    /// Writes the records over the rows from 0 on. Cells that a record of its
-    /// kind does not have, and all cells behind, keep what they hold.
+    /// Writes the records over the rows and the wires over the uses and
+    /// lengths, from 0 on. All cells behind keep what they hold.
     pub fn write(&mut self, shell: &Shell) {
-        for (row, vertex) in shell.vertices.iter().enumerate() {
-            let numbers = &mut self.vertex_numbers[row * VERTEX_NUMBERS..][..VERTEX_NUMBERS];
-            let floats = &mut self.vertex_floats[row * VERTEX_FLOATS..][..VERTEX_FLOATS];
-            write_vertex(vertex, numbers, floats);
-        }
-        for (row, edge) in shell.edges.iter().enumerate() {
-            let numbers = &mut self.edge_numbers[row * EDGE_NUMBERS..][..EDGE_NUMBERS];
-            let floats = &mut self.edge_floats[row * EDGE_FLOATS..][..EDGE_FLOATS];
-            write_edge(edge, numbers, floats);
-        }
+        self.tables.write(&shell.vertices, &shell.edges);
         let mut place = 0;
         for (wire, length) in shell.wires.iter().zip(&mut self.lengths) {
             self.uses[place..place + wire.len()].copy_from_slice(wire);
             *length = wire.len() as u32;
             place += wire.len();
         }
-    }
-
-    /// The vertex of a row.
-    fn vertex(&self, row: usize) -> Vertex {
-        let numbers = &self.vertex_numbers[row * VERTEX_NUMBERS..][..VERTEX_NUMBERS];
-        let floats = &self.vertex_floats[row * VERTEX_FLOATS..][..VERTEX_FLOATS];
-        read_vertex(numbers, floats)
-    }
-
-    /// The edge of a row.
-    fn edge(&self, row: usize) -> Edge {
-        let numbers = &self.edge_numbers[row * EDGE_NUMBERS..][..EDGE_NUMBERS];
-        let floats = &self.edge_floats[row * EDGE_FLOATS..][..EDGE_FLOATS];
-        read_edge(numbers, floats)
     }
 }
 
@@ -234,6 +285,11 @@ fn put(cells: &mut [u64], floats: &[f64]) {
     }
 }
 
+/// Numbers for cells that are no input.
+pub fn numbers_poison(size: usize, random: &mut Random) -> Vec<u32> {
+    (0..size).map(|_| number_poison(random)).collect()
+}
+
 /// A number for a cell that is no input: mostly one that would be refused.
 fn number_poison(random: &mut Random) -> u32 {
     match random.below(4) {
@@ -244,7 +300,7 @@ fn number_poison(random: &mut Random) -> u32 {
 }
 
 /// Bits for a float cell that is no input: mostly not a number or too large.
-fn float_poison(random: &mut Random) -> u64 {
+pub fn float_poison(random: &mut Random) -> u64 {
     match random.below(4) {
         0 => 0x7ff0_0000_0000_0000 | random.word() >> 12,
         1 => 0xfff0_0000_0000_0000 | random.word() >> 12,

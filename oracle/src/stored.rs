@@ -2,118 +2,31 @@
 //! replay where the Rust is not at hand.
 //!
 //! The file is a row of 64-bit words, low byte first. A record is the number
-//! of the call, the counts of vertices, edges and wires, the lengths of the
-//! six buffers, their cells, the answer, three counts (0 where refused) and
-//! the cells afterwards. The word 0 ends the file.
+//! of the call, its plain arguments, for each slice its length and its cells,
+//! the answer, the out values (0 where there is no result), and for each slice
+//! that may be written to its cells afterwards. In the records of call 1 the
+//! lengths of all slices come first and the cells of all behind them. The word
+//! 0 ends the file.
 
-use crate::compare::{Expected, Tally, UNTOUCHED};
-use crate::port::Port;
+use crate::calls::find_divisor::FindDivisor;
+use crate::calls::nearest_correction::NearestEnds;
+use crate::calls::sort_wires::SortWires;
+use crate::cells::Cells;
+use crate::compare::{untouched, Expected, Input, Tally};
+use crate::port::{NearestCopy, Port, Unwrap, WireEnds};
 use crate::shell::Lent;
 
-/// The number that stands for `split_closed_edges`.
-const SPLIT_CLOSED_EDGES: u64 = 1;
+#[cfg(rust_at_hand)]
+mod make;
+#[cfg(rust_at_hand)]
+pub use make::make;
 
 /// Most cells in a buffer that is stored.
 const MOST_CELLS: usize = 64;
 
-/// Most cells in the six buffers of a stored call together.
-#[cfg(rust_at_hand)]
-const MOST_IN_ALL: usize = 120;
-
-/// How many calls of each answer are stored, from answer 0 on.
-#[cfg(rust_at_hand)]
-const QUOTAS: [usize; 7] = [1200, 134, 134, 133, 133, 133, 133];
-
-/// The file's bytes, always the same.
-#[cfg(rust_at_hand)]
-pub fn make() -> Vec<u8> {
-    use crate::{compare, inputs, random::Random};
-    let (mut words, mut left, mut index) = (Vec::new(), QUOTAS, 0);
-    while left.iter().any(|&times| times > 0) {
-        let mut random = Random::new(0x6b61_7567, 99, index);
-        let sizes = inputs::little_sizes(&mut random);
-        let mut input = match index % 4 {
-            0 | 1 => {
-                let shell = inputs::shell(&mut random, &sizes);
-                inputs::lend(&mut random, &shell)
-            }
-            _ => inputs::damaged_of(&mut random, &sizes),
-        };
-        index += 1;
-        let mut expected = compare::expected(&input);
-        if expected.answer == 0 {
-            tell_apart(&mut input);
-            expected = compare::expected(&input);
-        }
-        let quota = &mut left[expected.answer as usize];
-        if *quota > 0 && is_stored(&input) {
-            *quota -= 1;
-            put_record(&mut words, &input, &expected);
-        }
-    }
-    words.push(0);
-    words.iter().flat_map(|word| word.to_le_bytes()).collect()
-}
-
-/// A replay may hold all NaN patterns for one. In an input that is accepted
-/// such a cell is no input, so it can as well hold a number of its own.
-#[cfg(rust_at_hand)]
-fn tell_apart(input: &mut Lent) {
-    let cells = input.vertex_floats.iter_mut().chain(&mut input.edge_floats);
-    for (i, cell) in cells.enumerate() {
-        if f64::from_bits(*cell).is_nan() {
-            *cell = (-1.0e9 - i as f64).to_bits();
-        }
-    }
-}
-
-/// Small inputs that are none of the worked examples.
-#[cfg(rust_at_hand)]
-fn is_stored(input: &Lent) -> bool {
-    let worked = |case: &crate::limits::Case| {
-        let known = &case.input;
-        case.expected.answer == 0
-            && crate::model::refused(input).is_none()
-            && known.read() == input.read()
-    };
-    input.edges > 0
-        && input.sizes().iter().all(|&size| size <= MOST_CELLS)
-        && input.sizes().iter().sum::<usize>() <= MOST_IN_ALL
-        && !crate::limits::worked().iter().any(worked)
-}
-
-/// Adds one record.
-#[cfg(rust_at_hand)]
-fn put_record(words: &mut Vec<u64>, input: &Lent, expected: &Expected) {
-    words.push(SPLIT_CLOSED_EDGES);
-    words.extend([input.vertices, input.edges, input.wires].map(|count| count as u64));
-    words.extend(input.sizes().map(|size| size as u64));
-    put_cells(words, input);
-    words.push(expected.answer as u64);
-    let refused = expected.answer != 0;
-    words.extend(
-        expected
-            .counts
-            .map(|count| if refused { 0 } else { count as u64 }),
-    );
-    put_cells(words, &expected.after);
-}
-
-/// Adds the cells of the six buffers.
-#[cfg(rust_at_hand)]
-fn put_cells(words: &mut Vec<u64>, lent: &Lent) {
-    let wide = |cells: &[u32]| {
-        cells
-            .iter()
-            .map(|&cell| u64::from(cell))
-            .collect::<Vec<_>>()
-    };
-    words.extend(wide(&lent.vertex_numbers));
-    words.extend(&lent.vertex_floats);
-    words.extend(wide(&lent.edge_numbers));
-    words.extend(&lent.edge_floats);
-    words.extend(wide(&lent.uses));
-    words.extend(wide(&lent.lengths));
+/// Whether the lengths of all slices come first.
+fn lengths_first<I: Input>() -> bool {
+    I::NUMBER == Lent::NUMBER
 }
 
 /// A file that is being read.
@@ -128,64 +41,81 @@ impl Reader<'_> {
         Ok(u64::from_le_bytes(bytes.try_into().expect("eight bytes")))
     }
 
-    /// The next words as counts.
-    fn counts<const N: usize>(&mut self) -> Result<[usize; N], String> {
-        let mut counts = [0; N];
-        for count in &mut counts {
-            *count = self.word()? as usize;
+    /// So many words.
+    fn words(&mut self, count: usize) -> Result<Vec<u64>, String> {
+        (0..count).map(|_| self.word()).collect()
+    }
+
+    /// A length of a slice.
+    fn length(&mut self) -> Result<usize, String> {
+        match self.word()? as usize {
+            length if length <= MOST_CELLS => Ok(length),
+            _ => Err("a buffer is too long".into()),
         }
-        Ok(counts)
     }
 
-    /// So many words as floats' bits.
-    fn floats(&mut self, size: usize) -> Result<Vec<u64>, String> {
-        (0..size).map(|_| self.word()).collect()
-    }
-
-    /// So many words as numbers of 32 bits.
-    fn numbers(&mut self, size: usize) -> Result<Vec<u32>, String> {
-        let narrow = |word: u64| u32::try_from(word).map_err(|_| "a number is too large".into());
-        (0..size).map(|_| narrow(self.word()?)).collect()
-    }
-
-    /// Six buffers of the given lengths.
-    fn lent(&mut self, counts: [usize; 3], sizes: [usize; 6]) -> Result<Lent, String> {
-        if sizes.iter().any(|&size| size > MOST_CELLS) {
-            return Err("a buffer is too long".into());
+    /// The slices of a call with the lengths before them.
+    fn slices<I: Input>(&mut self) -> Result<Vec<Cells>, String> {
+        let mut lengths = Vec::new();
+        if lengths_first::<I>() {
+            for _ in I::SLICES {
+                lengths.push(self.length()?);
+            }
         }
-        Ok(Lent {
-            vertex_numbers: self.numbers(sizes[0])?,
-            vertex_floats: self.floats(sizes[1])?,
-            edge_numbers: self.numbers(sizes[2])?,
-            edge_floats: self.floats(sizes[3])?,
-            uses: self.numbers(sizes[4])?,
-            lengths: self.numbers(sizes[5])?,
-            vertices: counts[0],
-            edges: counts[1],
-            wires: counts[2],
-        })
+        let mut slices = Vec::new();
+        for (place, lending) in I::SLICES.iter().enumerate() {
+            let length = match lengths.get(place) {
+                Some(length) => *length,
+                None => self.length()?,
+            };
+            slices.push(Cells::of(lending.kind, self.words(length)?)?);
+        }
+        Ok(slices)
     }
 
     /// One record behind its call number.
-    fn record(&mut self) -> Result<(Lent, Expected), String> {
-        let (counts, sizes) = (self.counts()?, self.counts()?);
-        let input = self.lent(counts, sizes)?;
+    fn record<I: Input>(&mut self) -> Result<(I, Expected<I>), String> {
+        let scalars = self.words(I::SCALARS)?;
+        let slices = self.slices::<I>()?;
+        let input = I::put_together(&scalars, slices.clone())?;
         let answer = self.word()? as i32;
-        let told = self.counts()?;
-        let after = self.lent(counts, sizes)?;
-        let counts = if answer == 0 { told } else { UNTOUCHED };
+        let told = self.words(I::OUT.1)?;
+        let mut after = slices;
+        for (cells, lending) in after.iter_mut().zip(I::SLICES) {
+            if lending.written {
+                *cells = Cells::of(lending.kind, self.words(cells.size())?)?;
+            }
+        }
         let expected = Expected {
             answer,
-            counts,
-            after,
+            out: if answer == 0 { told } else { untouched::<I>() },
+            after: I::put_together(&scalars, after)?,
         };
         Ok((input, expected))
     }
+
+    /// Makes the call of one record, or passes it by where the port has none.
+    fn judge<I: Input>(&mut self, port: &dyn Port, tallies: &mut Tallies) -> Result<(), String> {
+        let (input, expected) = self.record::<I>()?;
+        let place = tallies.iter().position(|(name, _)| *name == I::NAME);
+        let place = place.unwrap_or_else(|| {
+            tallies.push((I::NAME, Tally::default()));
+            tallies.len() - 1
+        });
+        if port.has(I::NAME) {
+            tallies[place].1.judge(port, &input, &expected);
+        }
+        Ok(())
+    }
 }
 
+/// What came of the stored calls, by the name of the call; nothing at all
+/// where the port does not have it.
+pub type Tallies = Vec<(&'static str, Tally)>;
+
 /// Makes every stored call and holds it against its stored answer.
-pub fn replay(port: &dyn Port, bytes: &[u8]) -> Result<Tally, String> {
-    let mut tally = Tally::default();
+pub fn replay(port: &dyn Port, bytes: &[u8]) -> Result<Tallies, String> {
+    let mut tallies = Vec::new();
     let rest = bytes.chunks_exact(8);
     if !rest.remainder().is_empty() {
         return Err("the file is no row of words".into());
@@ -193,11 +123,14 @@ pub fn replay(port: &dyn Port, bytes: &[u8]) -> Result<Tally, String> {
     let mut reader = Reader { rest };
     loop {
         match reader.word()? {
-            0 if reader.rest.len() == 0 => return Ok(tally),
-            SPLIT_CLOSED_EDGES => {
-                let (input, expected) = reader.record()?;
-                tally.judge(port, &input, &expected);
-            }
+            0 if reader.rest.len() == 0 => return Ok(tallies),
+            Lent::NUMBER => reader.judge::<Lent>(port, &mut tallies)?,
+            Unwrap::NUMBER => reader.judge::<Unwrap>(port, &mut tallies)?,
+            NearestCopy::NUMBER => reader.judge::<NearestCopy>(port, &mut tallies)?,
+            WireEnds::NUMBER => reader.judge::<WireEnds>(port, &mut tallies)?,
+            SortWires::NUMBER => reader.judge::<SortWires>(port, &mut tallies)?,
+            NearestEnds::NUMBER => reader.judge::<NearestEnds>(port, &mut tallies)?,
+            FindDivisor::NUMBER => reader.judge::<FindDivisor>(port, &mut tallies)?,
             other => return Err(format!("no call has the number {other}")),
         }
     }

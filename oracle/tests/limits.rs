@@ -1,37 +1,44 @@
 //! The named cases: each answer is written out by hand, and the plain
 //! implementation, the model and the Rust all give it.
 
+use oracle::calls::find_divisor::FindDivisor;
+use oracle::calls::nearest_correction::NearestEnds;
+use oracle::calls::sort_wires::SortWires;
+use oracle::calls::Families;
 use oracle::compare::difference;
-use oracle::limits::cases;
+use oracle::port::{NearestCopy, Unwrap, WireEnds};
 use oracle::reference::Reference;
+use oracle::shell::Lent;
 use std::collections::BTreeSet;
 
-#[test]
-fn the_reference_gives_the_written_answers() {
-    for case in cases() {
+/// The reference, the model and the Rust give the written answers of a call;
+/// every answer occurs, no name stands twice, and these names stand there.
+fn hold<I: Families + std::fmt::Debug>(wanted: &[&str]) {
+    let cases = I::limits();
+    for case in &cases {
         let (_, what) = difference(&Reference::default(), &case.input, &case.expected);
-        assert_eq!(what, None, "{}", case.name);
+        assert_eq!(what, None, "{} {}", I::NAME, case.name);
+        #[cfg(rust_at_hand)]
+        assert!(
+            case.input.expected() == case.expected,
+            "{} {}: {:?}",
+            I::NAME,
+            case.name,
+            case.input.expected()
+        );
     }
-}
-
-#[test]
-#[cfg(rust_at_hand)]
-fn the_rust_and_the_model_give_the_written_answers() {
-    for case in cases() {
-        let expected = oracle::compare::expected(&case.input);
-        assert_eq!(expected.answer, case.expected.answer, "{}", case.name);
-        assert!(expected == case.expected, "{}", case.name);
-    }
-}
-
-#[test]
-fn every_answer_and_every_name_occurs() {
-    let cases = cases();
     let answers: BTreeSet<i32> = cases.iter().map(|case| case.expected.answer).collect();
-    assert!(answers.into_iter().eq(0..=6));
+    assert_eq!(answers, I::ANSWERS.iter().copied().collect());
     let names: BTreeSet<&str> = cases.iter().map(|case| case.name).collect();
     assert_eq!(names.len(), cases.len(), "a name stands twice");
-    let wanted = [
+    for name in wanted {
+        assert!(names.contains(name), "{name}");
+    }
+}
+
+#[test]
+fn split_closed_edges() {
+    hold::<Lent>(&[
         "K1",
         "K2",
         "K3",
@@ -49,8 +56,59 @@ fn every_answer_and_every_name_occurs() {
         "NaN for t0 of a span",
         "NaN for u beside a span",
         "all counts the largest",
-    ];
-    for name in wanted {
-        assert!(names.contains(name), "{name}");
-    }
+    ]);
+}
+
+#[test]
+fn get_mindiff() {
+    hold::<Unwrap>(&[
+        "K4",
+        "K5",
+        "negative zero, nearest unmoved",
+        "no period, negative zero",
+        "no period, NaN for u0",
+        "period negative zero",
+    ]);
+}
+
+#[test]
+fn nearest_copy() {
+    hold::<NearestCopy>(&[
+        "no periods, negative zero becomes zero",
+        "the first of copies whose squares are lost",
+    ]);
+}
+
+#[test]
+fn boundary_type() {
+    hold::<WireEnds>(&["K17", "K18", "K19", "just at the threshold"]);
+}
+
+#[test]
+fn sort_wires() {
+    hold::<SortWires>(&["64 wires", "65 wires", "none before 6"]);
+}
+
+#[test]
+fn nearest_correction() {
+    hold::<NearestEnds>(&[
+        "K9's own start",
+        "coincident vertices",
+        "equal after rounding",
+        "no first stretch",
+        "the last vertex pending",
+    ]);
+}
+
+#[test]
+fn find_divisor() {
+    hold::<FindDivisor>(&[
+        "K6",
+        "K7",
+        "K8",
+        "K9",
+        "an answer before 8",
+        "8 before an answer",
+        "7 before 8",
+    ]);
 }

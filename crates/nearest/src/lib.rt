@@ -127,9 +127,9 @@ fn shift(q: Uv, du: f64, dv: f64) -> Uv
 fn closer(p: Uv, a: Uv, b: Uv) -> Uv
     ensures { λ r. ⌜ r ≡ smaller (from p) a b ⌝ }
 {
-    let x = floats::distance2_uv(p.u, p.v, a.u, a.v);
-    let y = floats::distance2_uv(p.u, p.v, b.u, b.v);
-    if y < x { b } else { a }
+    let to_a = floats::distance2_uv(p.u, p.v, a.u, a.v);
+    let to_b = floats::distance2_uv(p.u, p.v, b.u, b.v);
+    if to_b < to_a { b } else { a }
 }
 
 fn first_shift(period: Period) -> f64
@@ -472,9 +472,9 @@ fn nearer_vertex(numbers: &[u32], floats: &[f64], p: u32, a: u32, b: u32) -> u32
     requires { ⌜ (a * 3 + 3 ≤ length (now numbers)) × (a * 7 + 7 ≤ length (now floats)) × (b * 3 + 3 ≤ length (now numbers)) × (b * 7 + 7 ≤ length (now floats)) ⌝ }
     ensures { λ r. ⌜ r ≡ smaller (gapFrom (vertexAt (now (numbers .entry)) (now (floats .entry))) p) a b ⌝ }
 {
-    let x = gap_from(numbers, floats, p, a);
-    let y = gap_from(numbers, floats, p, b);
-    if y < x { b } else { a }
+    let gap_a = gap_from(numbers, floats, p, a);
+    let gap_b = gap_from(numbers, floats, p, b);
+    if gap_b < gap_a { b } else { a }
 }
 
 // The front of a stretch that is nearest to vertex p.

@@ -1,0 +1,168 @@
+//! The stored answers: always the same, held by the reference, and able to
+//! find most of the wrong ports.
+#![cfg(rust_at_hand)]
+
+mod wrong;
+
+use oracle::port::Port;
+use oracle::reference::Reference;
+use oracle::stored::{make, replay};
+use wrong::{near, pass, search, Mutant, Only};
+
+/// How often each call and each of its answers must be stored at least.
+const LEAST: [(&str, &[(i32, usize)]); 7] = [
+    (
+        "split_closed_edges",
+        &[
+            (0, 1000),
+            (1, 100),
+            (2, 100),
+            (3, 100),
+            (4, 100),
+            (5, 100),
+            (6, 100),
+        ],
+    ),
+    ("get_mindiff", &[(0, 300), (1, 20), (4, 20), (5, 20)]),
+    ("nearest_copy", &[(0, 300), (1, 20), (4, 20), (5, 20)]),
+    ("boundary_type", &[(0, 300), (4, 20)]),
+    (
+        "sort_wires",
+        &[(0, 100), (-1, 20), (1, 20), (4, 20), (6, 20)],
+    ),
+    (
+        "nearest_correction",
+        &[
+            (0, 100),
+            (-1, 20),
+            (1, 20),
+            (2, 20),
+            (3, 20),
+            (4, 20),
+            (5, 20),
+            (7, 20),
+        ],
+    ),
+    (
+        "find_non_simple_wire_divisor",
+        &[
+            (0, 100),
+            (-1, 20),
+            (1, 20),
+            (2, 20),
+            (3, 20),
+            (4, 20),
+            (5, 20),
+            (7, 20),
+            (8, 20),
+        ],
+    ),
+];
+
+#[test]
+fn stored_answers_are_always_the_same_and_hold() {
+    let bytes = make();
+    assert!(bytes == make());
+    assert!(bytes.len() <= 4_000_000, "{} bytes", bytes.len());
+    let tallies = replay(&Reference::default(), &bytes).unwrap();
+    for ((name, tally), (call, least)) in tallies.iter().zip(LEAST) {
+        assert_eq!((*name, tally.differences), (call, 0));
+        for (answer, times) in least {
+            assert!(tally.answers[answer] >= *times, "{name} {answer}");
+        }
+    }
+    assert_eq!(tallies.len(), LEAST.len());
+    assert_eq!(tallies[0].1.calls, 2000);
+}
+
+/// The mutants of these lists that the stored answers of a call do not find.
+fn missed(call: &str, bytes: &[u8], lists: Vec<Vec<Mutant>>) -> Vec<&'static str> {
+    let found = |port: &dyn Port| {
+        let only = Only { name: call, port };
+        let tallies = replay(&only, bytes).unwrap();
+        let mut made = tallies.iter().filter(|(_, tally)| tally.calls > 0);
+        let (name, tally) = made.next().expect("the call is stored");
+        assert_eq!((*name, made.count()), (call, 0));
+        tally.differences
+    };
+    let mut missed = Vec::new();
+    for (name, port) in lists.into_iter().flatten() {
+        let differences = found(port.as_ref());
+        println!("{call}, {name}: {differences} of the stored answers");
+        if differences == 0 {
+            missed.push(name);
+        }
+    }
+    missed
+}
+
+#[test]
+fn stored_answers_find_wrong_passes() {
+    let lists = vec![
+        pass::wrong_results(),
+        pass::wrong_vertices(),
+        pass::wrong_middles(),
+        pass::wrong_refusals(),
+        pass::wrong_bounds(),
+        pass::wrong_sight(),
+        pass::wrong_rows(),
+        pass::wrong_writes(),
+        pass::wrong_ends(),
+    ];
+    // These need tables at their bounds, or a NaN in a call that is done.
+    let known = [
+        "no bound on vertices out",
+        "4096 vertices out are too many",
+        "1024 uses out are too many",
+        "edges are refused at 4096",
+        "NaN made quiet past the result",
+    ];
+    assert_eq!(missed("split_closed_edges", &make(), lists), known);
+}
+
+#[test]
+fn stored_answers_find_wrong_calls_over_numbers() {
+    let bytes = make();
+    let none: [&str; 0] = [];
+    let lists = vec![near::wrong_unwrapping(), near::wrong_numbers()];
+    assert_eq!(missed("get_mindiff", &bytes, lists), none);
+    let lists = vec![near::wrong_copies(), near::wrong_copying()];
+    assert_eq!(missed("nearest_copy", &bytes, lists), none);
+    let lists = vec![near::wrong_kinds()];
+    assert_eq!(missed("boundary_type", &bytes, lists), none);
+    let lists = vec![near::wrong_sorting(), near::wrong_sorting_calls()];
+    // These need more floats than a stored buffer holds.
+    let known = ["64 wires are too many", "65 wires pass"];
+    assert_eq!(missed("sort_wires", &bytes, lists), known);
+}
+
+#[test]
+fn stored_answers_find_wrong_searches() {
+    let bytes = make();
+    let none: [&str; 0] = [];
+    let lists = vec![
+        search::wrong_distances(),
+        search::wrong_pending(),
+        search::wrong_nearest(),
+    ];
+    // These need more uses than a stored buffer holds.
+    let known = ["1024 uses are too many", "1025 uses pass"];
+    assert_eq!(missed("nearest_correction", &bytes, lists), known);
+    let lists = vec![
+        search::wrong_distances(),
+        search::wrong_pending(),
+        search::wrong_pairs(),
+        search::wrong_search(),
+    ];
+    assert_eq!(missed("find_non_simple_wire_divisor", &bytes, lists), none);
+}
+
+#[test]
+fn a_damaged_file_is_turned_away() {
+    let bytes = make();
+    let reference = Reference::default();
+    assert!(replay(&reference, &bytes[..bytes.len() - 8]).is_err());
+    assert!(replay(&reference, &bytes[..bytes.len() - 1]).is_err());
+    assert!(replay(&reference, &[]).is_err());
+    assert!(replay(&reference, &9u64.to_le_bytes()).is_err());
+}

@@ -1,0 +1,142 @@
+//! Ports that are wrong in one place each.
+#![allow(dead_code)]
+
+pub mod near;
+pub mod pass;
+pub mod search;
+
+use oracle::port::{Nearest, NearestCopy, Pass, Port, Search, Sort, Unwrap, WireEnds};
+use oracle::reference::Reference;
+use oracle::shell::Lent;
+
+/// A wrong port with the name of what is wrong.
+pub type Mutant = (&'static str, Box<dyn Port>);
+
+/// The reference with some steps replaced.
+pub fn step(name: &'static str, change: fn(&mut Reference)) -> Mutant {
+    let mut reference = Reference::default();
+    change(&mut reference);
+    (name, Box::new(reference))
+}
+
+/// The reference with something done after a call: it is told the answer, and
+/// gives another one or the same.
+#[derive(Clone, Copy)]
+pub struct Behind {
+    pub pass: fn(i32, &Lent, &mut Pass) -> i32,
+    pub unwrap: fn(i32, Unwrap, &mut [u64]) -> i32,
+    pub copy: fn(i32, NearestCopy, &mut [u64]) -> i32,
+    pub kind: fn(i32, WireEnds, &mut [u32]) -> i32,
+    pub sort: fn(i32, &mut Sort) -> i32,
+    pub nearest: fn(i32, &mut Nearest) -> i32,
+    pub search: fn(i32, &mut Search) -> i32,
+}
+
+/// A port that does something wrong after all else was right.
+pub fn behind(name: &'static str, change: impl Fn(&mut Behind)) -> Mutant {
+    let mut behind = Behind {
+        pass: |answer, _, _| answer,
+        unwrap: |answer, _, _| answer,
+        copy: |answer, _, _| answer,
+        kind: |answer, _, _| answer,
+        sort: |answer, _| answer,
+        nearest: |answer, _| answer,
+        search: |answer, _| answer,
+    };
+    change(&mut behind);
+    (name, Box::new(behind))
+}
+
+/// A port of which only one call is there.
+pub struct Only<'a> {
+    pub name: &'a str,
+    pub port: &'a dyn Port,
+}
+
+impl Port for Only<'_> {
+    fn has(&self, name: &str) -> bool {
+        name == self.name
+    }
+
+    fn split_closed_edges(&self, call: Pass<'_>) -> i32 {
+        self.port.split_closed_edges(call)
+    }
+
+    fn get_mindiff(&self, call: Unwrap, out: &mut [u64]) -> i32 {
+        self.port.get_mindiff(call, out)
+    }
+
+    fn nearest_copy(&self, call: NearestCopy, out: &mut [u64]) -> i32 {
+        self.port.nearest_copy(call, out)
+    }
+
+    fn boundary_type(&self, call: WireEnds, out: &mut [u32]) -> i32 {
+        self.port.boundary_type(call, out)
+    }
+
+    fn sort_wires(&self, call: Sort<'_>) -> i32 {
+        self.port.sort_wires(call)
+    }
+
+    fn nearest_correction(&self, call: Nearest<'_>) -> i32 {
+        self.port.nearest_correction(call)
+    }
+
+    fn find_non_simple_wire_divisor(&self, call: Search<'_>) -> i32 {
+        self.port.find_non_simple_wire_divisor(call)
+    }
+}
+
+/// The implementation that is spoiled afterwards.
+fn right() -> Reference {
+    Reference::default()
+}
+
+impl Port for Behind {
+    fn split_closed_edges(&self, mut call: Pass<'_>) -> i32 {
+        let before = call.copy();
+        let answer = right().split_closed_edges(call.again());
+        (self.pass)(answer, &before, &mut call)
+    }
+
+    fn get_mindiff(&self, call: Unwrap, out: &mut [u64]) -> i32 {
+        let answer = right().get_mindiff(call, out);
+        (self.unwrap)(answer, call, out)
+    }
+
+    fn nearest_copy(&self, call: NearestCopy, out: &mut [u64]) -> i32 {
+        let answer = right().nearest_copy(call, out);
+        (self.copy)(answer, call, out)
+    }
+
+    fn boundary_type(&self, call: WireEnds, out: &mut [u32]) -> i32 {
+        let answer = right().boundary_type(call, out);
+        (self.kind)(answer, call, out)
+    }
+
+    fn sort_wires(&self, mut call: Sort<'_>) -> i32 {
+        let answer = right().sort_wires(Sort {
+            open: call.open,
+            closed: call.closed,
+            out: call.out,
+            ..call
+        });
+        (self.sort)(answer, &mut call)
+    }
+
+    fn nearest_correction(&self, mut call: Nearest<'_>) -> i32 {
+        let answer = right().nearest_correction(Nearest {
+            out: call.out,
+            ..call
+        });
+        (self.nearest)(answer, &mut call)
+    }
+
+    fn find_non_simple_wire_divisor(&self, mut call: Search<'_>) -> i32 {
+        let answer = right().find_non_simple_wire_divisor(Search {
+            out: call.out,
+            ..call
+        });
+        (self.search)(answer, &mut call)
+    }
+}
