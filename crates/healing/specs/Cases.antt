@@ -1,24 +1,36 @@
--- The worked cases of document 01, K1 to K3 so far, and one claim: each holds of the written definitions.
+-- The worked cases of document 01, K1 to K5 so far, and one claim: each holds of the written definitions.
 use mathlib.Core.Path.{_≡_, refl}
 use mathlib.Core.List.{List, [], _∷_}
 use Prim.Native.Nat.{ℕ}
-use lib.Ieee.{Float, binary64, ofBits, add, div, round}
+use lib.Ieee.{Float, binary64, ofBits, add, sub, mul, div, neg, lt, le, round}
 use Rattle.compress.specs.declared.Curve.the-variants.{Span}
 use Rattle.compress.specs.declared.Edge.{Edge}
+use Rattle.compress.specs.declared.Uv.{Uv}
 use Rattle.compress.specs.declared.Vertex.{Vertex}
 use Rattle.compress.specs.declared.Vertex.the-variants.{Given, Pending}
 use Rattle.compress.specs.Records.{closed}
+use Rattle.compress.specs.Said.{Said, result}
 use Rattle.compress.specs.Shell.{Shell}
+use Rattle.checks.specs.Causes.{lowerOf, floatCause, periodCause, uvCause}
 use Rattle.split_closed_edges.specs.Cut.{middleOf, halvesOf, pendingOf}
 use Rattle.split_closed_edges.specs.Pass.{keptEdges, newEdges, newVertices, addedTo, replaceUse, replaceEdges, replaceWires, splitClosedEdges}
+use Rattle.nearest.specs.declared.Period.{Period}
+use Rattle.nearest.specs.declared.Period.the-variants.{Absent, Every}
+use Rattle.nearest.specs.Choice.{smaller}
+use Rattle.nearest.specs.Unwrap.{awayFrom, nearestOf, unwrapped, periodCauseOf, unwrapCause, getMindiff}
+use Rattle.nearest.specs.Copies.{nearestCopyOf, copyCause, nearestCopySaid}
 
 -- a call, what it is given and what it answers
 pub data Case : Type 0 where
   closed-edges : (given answer : Shell) → Case
+  unwrapping : (u u0 : Float) → Period → Said Float → Case
+  copying : (p q : Uv) → (up vp : Period) → Said Uv → Case
 
 -- what a case says of the definitions
 abbrev pub holds : Case → Type 0
 holds (closed-edges given answer) = splitClosedEdges given ≡ answer
+holds (unwrapping u u0 period answer) = getMindiff u u0 period ≡ answer
+holds (copying p q up vp answer) = nearestCopySaid p q up vp ≡ answer
 
 abbrev pub allHold : List Case → Type 0
 allHold [] = Unit
@@ -28,8 +40,24 @@ allHold (c ∷ cs) = holds c × allHold cs
 abbrev pub zero64 : Float
 zero64 = ofBits binary64 0
 
+abbrev pub negativeZero64 : Float
+negativeZero64 = ofBits binary64 0x8000_0000_0000_0000
+
+abbrev pub half64 : Float
+half64 = ofBits binary64 0x3fe0_0000_0000_0000
+
+abbrev pub two64 : Float
+two64 = ofBits binary64 0x4000_0000_0000_0000
+
 abbrev pub four64 : Float
 four64 = ofBits binary64 0x4010_0000_0000_0000
+
+-- 4.5
+abbrev pub fourAndHalf64 : Float
+fourAndHalf64 = ofBits binary64 0x4012_0000_0000_0000
+
+abbrev pub six64 : Float
+six64 = ofBits binary64 0x4018_0000_0000_0000
 
 abbrev pub eight64 : Float
 eight64 = ofBits binary64 0x4020_0000_0000_0000
@@ -67,17 +95,42 @@ k2 = closed-edges (rimWith (1 ∷ [])) (rimCutWith (3 ∷ 1 ∷ []))
 abbrev pub k3 : Case
 k3 = closed-edges (record { vertices = rimVertex ∷ []; edges = []; wires = [] ∷ [] }) (record { vertices = rimVertex ∷ []; edges = []; wires = [] ∷ [] })
 
+-- "K4: u 0.5, u0 6, period 4 gives 4.5."
+abbrev pub k4 : Case
+k4 = unwrapping half64 six64 (Every four64) (result fourAndHalf64)
+
+-- "K5: u 0, u0 2, period 4 gives 0."
+abbrev pub k5 : Case
+k5 = unwrapping zero64 two64 (Every four64) (result zero64)
+
 abbrev pub cases : List Case
-cases = k1 ∷ k2 ∷ k3 ∷ []
+cases = k1 ∷ k2 ∷ k3 ∷ k4 ∷ k5 ∷ []
 
 pub cases-hold : allHold cases
-unfolding add div round ofBits splitClosedEdges keptEdges newEdges newVertices addedTo replaceUse replaceEdges replaceWires middleOf halvesOf pendingOf closed
-cases-hold = (refl, (refl, (refl, tt)))
+unfolding add sub mul div neg lt le round ofBits splitClosedEdges keptEdges newEdges newVertices addedTo replaceUse replaceEdges replaceWires middleOf halvesOf pendingOf closed lowerOf floatCause periodCause smaller awayFrom nearestOf unwrapped periodCauseOf unwrapCause getMindiff
+cases-hold = (refl, (refl, (refl, (refl, (refl, tt)))))
 
--- ---- beside document 01's cases: K1's edge with the wire 0+ 0- gives 0+ 1+ 1- 0-
+-- ---- beside document 01's cases
+
+-- K1's edge with the wire 0+ 0- gives 0+ 1+ 1- 0-
+abbrev pub bothWays : Case
+bothWays = closed-edges (rimWith (0 ∷ 1 ∷ [])) (rimCutWith (0 ∷ 2 ∷ 3 ∷ 1 ∷ []))
+
+-- "With no period, u comes back as given, to the bit."
+abbrev pub noPeriod : Case
+noPeriod = unwrapping negativeZero64 zero64 Absent (result negativeZero64)
+
+-- "Negative zero plus the zero step is zero."
+abbrev pub zeroStep : Case
+zeroStep = unwrapping negativeZero64 zero64 (Every four64) (result zero64)
+
+-- a copy without periods is shifted by zero
+abbrev pub zeroShift : Case
+zeroShift = copying (record { u = zero64; v = zero64 }) (record { u = negativeZero64; v = negativeZero64 }) Absent Absent (result (record { u = zero64; v = zero64 }))
+
 abbrev pub corners : List Case
-corners = closed-edges (rimWith (0 ∷ 1 ∷ [])) (rimCutWith (0 ∷ 2 ∷ 3 ∷ 1 ∷ [])) ∷ []
+corners = bothWays ∷ noPeriod ∷ zeroStep ∷ zeroShift ∷ []
 
 pub corners-hold : allHold corners
-unfolding add div round ofBits splitClosedEdges keptEdges newEdges newVertices addedTo replaceUse replaceEdges replaceWires middleOf halvesOf pendingOf closed
-corners-hold = (refl, tt)
+unfolding add sub mul div neg lt le round ofBits splitClosedEdges keptEdges newEdges newVertices addedTo replaceUse replaceEdges replaceWires middleOf halvesOf pendingOf closed lowerOf floatCause periodCause uvCause smaller awayFrom nearestOf unwrapped periodCauseOf unwrapCause getMindiff nearestCopyOf copyCause nearestCopySaid
+corners-hold = (refl, (refl, (refl, (refl, tt))))

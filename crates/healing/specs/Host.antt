@@ -1,10 +1,25 @@
 -- What a host is told: a number for the answer, and the values of a result in the places that it lent. Definitions only.
 use mathlib.Core.Path.{_≡_}
+use mathlib.Core.List.{List}
 use Prim.Native.Nat.{ℕ}
+use lib.Dec.{eqb}
+use lib.Ieee.{Float}
 use lib.IntN.{ℤ, pos, negsuc}
+use Rattle.compress.specs.declared.Uv.{Uv}
+use Rattle.compress.specs.Records.{pick}
+use Rattle.compress.specs.Refusals.{refusalNumber}
 use Rattle.compress.specs.Said.{Said, result, none, refused}
 use Rattle.compress.specs.Shell.{Slices, Counts, Lent}
 use Rattle.split_closed_edges.specs.Contract.{Outcome, outcomeOf}
+use Rattle.nearest.specs.declared.Period.{Period}
+use Rattle.nearest.specs.declared.Period.the-variants.{Absent, Every}
+use Rattle.nearest.specs.declared.BoundaryType.{BoundaryType}
+use Rattle.nearest.specs.declared.BoundaryType.the-variants.{Positive, Negative, NotClosed}
+use Rattle.nearest.specs.Unwrap.{getMindiff}
+use Rattle.nearest.specs.Copies.{nearestCopySaid}
+use Rattle.nearest.specs.Kinds.{SortOutcome, boundaryTypeSaid}
+use Rattle.healing.specs.declared.periods.Asked.{Asked}
+use Rattle.healing.specs.declared.periods.Asked.the-variants.{Known, Unknown}
 
 -- 0 for a result, -1 for "none", and a refusal's own number
 abbrev pub codeOf : {A : Type 0} → Said A → ℤ
@@ -18,8 +33,55 @@ placesAfter (result a) before = a
 placesAfter none before = before
 placesAfter (refused n) before = before
 
--- the closed-edge pass, for a host
+-- what a host is told of an answer: the code r, and what the places lent for a result hold, before the call and after it
+pub record Told {A : Type 0} (s : Said A) (before after : A) (r : ℤ) : Type 0 where
+  pub code : r ≡ codeOf s
+  pub places : after ≡ placesAfter s before
+
+-- what is said of a result; "none" and a refusal stay
+abbrev pub onResult : {A B : Type 0} → Said A → (A → Said B) → Said B
+onResult (result a) f = f a
+onResult none f = none
+onResult (refused n) f = refused n
+
+-- ---- the closed-edge pass, for a host
 pub record HostSplit (l : Lent) (before after : Counts) (slices : Slices) (r : ℤ) : Type 0 where
-  pub code : r ≡ codeOf (outcomeOf l .said)
+  pub told : Told (outcomeOf l .said) before after r
   pub lent : slices ≡ outcomeOf l .slices
-  pub counts : after ≡ placesAfter (outcomeOf l .said) before
+
+-- ---- periods: kind 0 is absent, kind 1 is the number; 1, "a kind field holds no known kind"
+unfoldable pub periodSaid : ℕ → Float → Said Period
+periodSaid kind p = pick (eqb kind 0) (result Absent) (pick (eqb kind 1) (result (Every p)) (refused 1))
+
+abbrev pub saidPeriod : Asked → Said Period
+saidPeriod (Known p) = result p
+saidPeriod (Unknown r) = refused (refusalNumber r)
+
+-- ---- unwrapping, for a host
+unfoldable pub hostMindiff : Float → Float → ℕ → Float → Said Float
+hostMindiff u u0 kind p = onResult (periodSaid kind p) (getMindiff u u0)
+
+-- ---- the nearest copy, for a host: the period in u, and then that in v
+unfoldable pub hostCopyAlong : Uv → Uv → ℕ → Float → Period → Said Uv
+hostCopyAlong p q vk v up = onResult (periodSaid vk v) (nearestCopySaid p q up)
+
+unfoldable pub hostCopy : Uv → Uv → ℕ → Float → ℕ → Float → Said Uv
+hostCopy p q uk u vk v = onResult (periodSaid uk u) (hostCopyAlong p q vk v)
+
+-- ---- the kind of a wire, for a host
+abbrev pub boundaryNumber : BoundaryType → ℕ
+boundaryNumber Positive = 0
+boundaryNumber Negative = 1
+boundaryNumber NotClosed = 2
+
+abbrev pub numbered : Said BoundaryType → Said ℕ
+numbered s = onResult s (λ t. result (boundaryNumber t))
+
+abbrev pub hostKind : Uv → Uv → Float → Said ℕ
+hostKind a b area = numbered (boundaryTypeSaid a b area)
+
+-- ---- the sorting of wires, for a host
+pub record HostSort (o : SortOutcome) (before after : ℕ) (os cs : List ℕ) (r : ℤ) : Type 0 where
+  pub told : Told (o .said) before after r
+  pub opens : os ≡ o .opens
+  pub closed : cs ≡ o .closed

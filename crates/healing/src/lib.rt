@@ -1,4 +1,8 @@
-// The calls for hosts in C and Rust: numbers and slices, and an i32 for the answer.
+// The calls for hosts in C and Rust: numbers and slices, and an i32 for the answer. Here the closed-edge pass; the modules have the others.
+mod answers;
+mod kinds;
+mod periods;
+
 ghost use Rattle.compress.specs.Shell.{Slices, Counts, Lent};
 ghost use Rattle.split_closed_edges.specs.Contract.{lentOf, leaves};
 ghost use Rattle.healing.specs.Host.{HostSplit};
@@ -45,6 +49,6 @@ pub extern "C" fn kaugrenna_split_closed_edges(
             *uses_out = n;
             0
         }
-        Split::Refused(r) => compress::refusal_number(r) as i32,
+        Split::Refused(r) => answers::refusal_code(r),
     }
 }

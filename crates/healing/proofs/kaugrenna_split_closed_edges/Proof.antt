@@ -1,10 +1,8 @@
 -- `healing::kaugrenna_split_closed_edges` meets its contract. Assumes nothing.
-use Prim.Native.Nat.{_<_}
-use mir.Syntax.{w32}
-use mir.Facts.{toZ-pos}
-use native.Mathlib.Omega.{arith}
+use mathlib.Core.Path.{refl}
 use borrow.Author.Needs.{needs}
-use Rattle.healing.proofs.Told.{number-small, host-done, host-refused}
+use Rattle.split_closed_edges.specs.Contract.{saidOf}
+use Rattle.healing.proofs.Told.{told-result, told-refused, split-told}
 use Rattle.healing.proofs.kaugrenna_split_closed_edges.Statement.{statement}
 use Rattle.healing.proofs.kaugrenna_split_closed_edges.Tie as tie
 
@@ -17,12 +15,8 @@ enum-known-answer c = search needs
 enum-known-answer-2 : tie.Need-enum-known-answer-2
 enum-known-answer-2 c = search needs
 
-refusal-number-requires : tie.Need-refusal-number-requires
-refusal-number-requires c κs = search needs
-
-cast-result : tie.Need-cast-result
-cast-result c =
-    record { sfits = omega (arith, c .refusal-number .ensures, number-small (c .before .before .answer2 .given .0 .0)) }
+refusal-code-requires : tie.Need-refusal-code-requires
+refusal-code-requires c κs = search needs
 
 same-length : tie.Need-same-length
 same-length c = search needs
@@ -43,7 +37,7 @@ same-length-6 : tie.Need-same-length-6
 same-length-6 c = search needs
 
 returns : tie.Need-returns
-returns c = host-done _ _ _ _ (c .before .before .before .before .before .before .before .before .before .before .before .before .before .before .before .split-closed-edges .ensures) _ _ _ (c .before .answer .given .1)
+returns c = split-told (c .before .before .before .before .before .before .before .before .before .before .before .before .before .before .before .split-closed-edges .ensures) (told-result saidOf refl (c .before .answer .given .1) refl)
 
 same-length-7 : tie.Need-same-length-7
 same-length-7 c = search needs
@@ -64,10 +58,7 @@ same-length-12 : tie.Need-same-length-12
 same-length-12 c = search needs
 
 returns-2 : tie.Need-returns-2
-returns-2 c =
-    let small : c .refusal-number .result < 2147483648 = omega (arith, c .refusal-number .ensures, number-small (c .before .before .answer2 .given .0 .0)) in
-    rw (toZ-pos w32 {n = c .refusal-number .result} small)
-    (host-refused _ _ _ _ (c .before .before .before .before .before .before .before .before .before .before .before .before .before .before .before .before .split-closed-edges .ensures) _ _ (c .before .before .answer2 .given .1) (c .refusal-number .ensures))
+returns-2 c = split-told (c .before .before .before .before .before .before .before .before .before .before .before .before .before .before .before .before .split-closed-edges .ensures) (told-refused saidOf refl (c .before .before .answer2 .given .1) (c .before .before .answer2 .given .0 .0) (c .refusal-code .ensures) refl)
 
 pub kaugrenna-split-closed-edges-spec : {M : Type 1} → statement M
 kaugrenna-split-closed-edges-spec =
@@ -76,8 +67,7 @@ kaugrenna-split-closed-edges-spec =
     split-closed-edges-requires
     enum-known-answer
     enum-known-answer-2
-    refusal-number-requires
-    cast-result
+    refusal-code-requires
     same-length
     same-length-2
     same-length-3
