@@ -1,15 +1,16 @@
--- The worked cases of document 01, K1 to K5 so far, and one claim: each holds of the written definitions.
+-- The worked cases of document 01, K1 to K9 so far, and one claim: each holds of the written definitions.
 use mathlib.Core.Path.{_≡_, refl}
 use mathlib.Core.List.{List, [], _∷_}
 use Prim.Native.Nat.{ℕ}
+use lib.ListN.{getD}
 use lib.Ieee.{Float, binary64, ofBits, add, sub, mul, div, neg, lt, le, round}
 use Rattle.compress.specs.declared.Curve.the-variants.{Span}
 use Rattle.compress.specs.declared.Edge.{Edge}
 use Rattle.compress.specs.declared.Uv.{Uv}
 use Rattle.compress.specs.declared.Vertex.{Vertex}
 use Rattle.compress.specs.declared.Vertex.the-variants.{Given, Pending}
-use Rattle.compress.specs.Records.{closed}
-use Rattle.compress.specs.Said.{Said, result}
+use Rattle.compress.specs.Records.{closed, frontOf}
+use Rattle.compress.specs.Said.{Said, result, none, refused}
 use Rattle.compress.specs.Shell.{Shell}
 use Rattle.checks.specs.Causes.{lowerOf, floatCause, periodCause, uvCause}
 use Rattle.split_closed_edges.specs.Cut.{middleOf, halvesOf, pendingOf}
@@ -18,23 +19,11 @@ use Rattle.nearest.specs.declared.Period.{Period}
 use Rattle.nearest.specs.declared.Period.the-variants.{Absent, Every}
 use Rattle.nearest.specs.Choice.{smaller}
 use Rattle.nearest.specs.Unwrap.{awayFrom, nearestOf, unwrapped, periodCauseOf, unwrapCause, getMindiff}
+use Rattle.nearest.specs.Ends.{Divisor, pointOf, pointGap, gapFrom, frontAt, frontsOf, nearestFront, nearestEnds}
+use Rattle.wires.specs.Turn.{turned}
+use Rattle.non_simple.specs.Loop.{nothing, insert, searched, firstRepeat}
+use Rattle.non_simple.specs.Divisor.{secondPair, dividedBy, turnedDivisor, wireDivisor, findDivisor}
 use Rattle.nearest.specs.Copies.{nearestCopyOf, copyCause, nearestCopySaid}
-
--- a call, what it is given and what it answers
-pub data Case : Type 0 where
-  closed-edges : (given answer : Shell) → Case
-  unwrapping : (u u0 : Float) → Period → Said Float → Case
-  copying : (p q : Uv) → (up vp : Period) → Said Uv → Case
-
--- what a case says of the definitions
-abbrev pub holds : Case → Type 0
-holds (closed-edges given answer) = splitClosedEdges given ≡ answer
-holds (unwrapping u u0 period answer) = getMindiff u u0 period ≡ answer
-holds (copying p q up vp answer) = nearestCopySaid p q up vp ≡ answer
-
-abbrev pub allHold : List Case → Type 0
-allHold [] = Unit
-allHold (c ∷ cs) = holds c × allHold cs
 
 -- ---- the numbers and records of the cases
 abbrev pub zero64 : Float
@@ -42,6 +31,9 @@ zero64 = ofBits binary64 0
 
 abbrev pub negativeZero64 : Float
 negativeZero64 = ofBits binary64 0x8000_0000_0000_0000
+
+abbrev pub one64 : Float
+one64 = ofBits binary64 0x3ff0_0000_0000_0000
 
 abbrev pub half64 : Float
 half64 = ofBits binary64 0x3fe0_0000_0000_0000
@@ -81,6 +73,24 @@ rimCutWith wire =
       wires = wire ∷ [];
     }
 
+-- a call, what it is given and what it answers
+pub data Case : Type 0 where
+  closed-edges : (given answer : Shell) → Case
+  unwrapping : (u u0 : Float) → Period → Said Float → Case
+  searching : (edges : List Edge) → (vertices : List Vertex) → (wires : List (List ℕ)) → Said Divisor → Case
+  copying : (p q : Uv) → (up vp : Period) → Said Uv → Case
+
+-- what a case says of the definitions
+abbrev pub holds : Case → Type 0
+holds (closed-edges given answer) = splitClosedEdges given ≡ answer
+holds (unwrapping u u0 period answer) = getMindiff u u0 period ≡ answer
+holds (searching es vs ws answer) = findDivisor (λ i. getD es i rim) (λ i. getD vs i rimVertex) ws ≡ answer
+holds (copying p q up vp answer) = nearestCopySaid p q up vp ≡ answer
+
+abbrev pub allHold : List Case → Type 0
+allHold [] = Unit
+allHold (c ∷ cs) = holds c × allHold cs
+
 -- ---- the cases
 
 -- "K1: one vertex, edge 0 = (0, 0) with span 7 from 0 to 8, wire 0+. Result: .. wire 0+ 1+."
@@ -103,12 +113,42 @@ k4 = unwrapping half64 six64 (Every four64) (result fourAndHalf64)
 abbrev pub k5 : Case
 k5 = unwrapping zero64 two64 (Every four64) (result zero64)
 
+-- "K9: edges 0 = (0, 2), 1 = (0, 1), 2 = (1, 0), 3 = (2, 3), 4 = (3, 2); vertices (1,0,0), (-1,0,0), (1,0,4), (-1,0,4)"
+abbrev pub edgeBetween : ℕ → ℕ → Edge
+edgeBetween a b = record { front = a; back = b; curve = Span 0 zero64 one64 }
+
+abbrev pub pipeEdges : List Edge
+pipeEdges = edgeBetween 0 2 ∷ edgeBetween 0 1 ∷ edgeBetween 1 0 ∷ edgeBetween 2 3 ∷ edgeBetween 3 2 ∷ []
+
+abbrev pub pipeVertices : List Vertex
+pipeVertices =
+    Given one64 zero64 zero64 ∷ Given (neg one64) zero64 zero64 ∷ Given one64 zero64 four64 ∷ Given (neg one64) zero64 four64 ∷ []
+
+abbrev pub pipeWire : List ℕ → Said Divisor → Case
+pipeWire wire answer = searching pipeEdges pipeVertices (wire ∷ []) answer
+
+-- "K6: 0+ 1+ 2+ gives none."
+abbrev pub k6 : Case
+k6 = pipeWire (0 ∷ 2 ∷ 4 ∷ []) none
+
+-- "K7: 0+ 1+ 0- is refusal 8."
+abbrev pub k7 : Case
+k7 = pipeWire (0 ∷ 2 ∷ 1 ∷ []) (refused 8)
+
+-- "K8: 0+ 0- 1+ gives none."
+abbrev pub k8 : Case
+k8 = pipeWire (0 ∷ 1 ∷ 2 ∷ []) none
+
+-- "K9: .. wire 1+ 2+ 0+ 3+ 4+ 0-. Answer (3, 1)."
+abbrev pub k9 : Case
+k9 = pipeWire (2 ∷ 4 ∷ 0 ∷ 6 ∷ 8 ∷ 1 ∷ []) (result (record { v0 = 3; v1 = 1 }))
+
 abbrev pub cases : List Case
-cases = k1 ∷ k2 ∷ k3 ∷ k4 ∷ k5 ∷ []
+cases = k1 ∷ k2 ∷ k3 ∷ k4 ∷ k5 ∷ k6 ∷ k7 ∷ k8 ∷ k9 ∷ []
 
 pub cases-hold : allHold cases
-unfolding add sub mul div neg lt le round ofBits splitClosedEdges keptEdges newEdges newVertices addedTo replaceUse replaceEdges replaceWires middleOf halvesOf pendingOf closed lowerOf floatCause periodCause smaller awayFrom nearestOf unwrapped periodCauseOf unwrapCause getMindiff
-cases-hold = (refl, (refl, (refl, (refl, (refl, tt)))))
+unfolding add sub mul div neg lt le round ofBits splitClosedEdges keptEdges newEdges newVertices addedTo replaceUse replaceEdges replaceWires middleOf halvesOf pendingOf closed lowerOf floatCause periodCause smaller awayFrom nearestOf unwrapped periodCauseOf unwrapCause getMindiff nothing insert searched firstRepeat turned secondPair dividedBy turnedDivisor wireDivisor findDivisor frontOf frontAt frontsOf pointOf pointGap gapFrom nearestFront nearestEnds
+cases-hold = (refl, (refl, (refl, (refl, (refl, (refl, (refl, (refl, (refl, tt)))))))))
 
 -- ---- beside document 01's cases
 

@@ -2,6 +2,7 @@
 mod answers;
 mod kinds;
 mod periods;
+mod search;
 
 ghost use Rattle.compress.specs.Shell.{Slices, Counts, Lent};
 ghost use Rattle.split_closed_edges.specs.Contract.{lentOf, leaves};
