@@ -3,3 +3,4 @@ pub mod Refused
 pub mod Sorting
 pub mod Fronts
 pub mod Accepted
+pub mod Laws
