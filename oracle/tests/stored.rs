@@ -75,6 +75,14 @@ fn stored_answers_are_always_the_same_and_hold() {
     assert_eq!(tallies[0].1.calls, 2000);
 }
 
+/// The list that the Rattle program replays is the one that `oracle store`
+/// writes.
+#[test]
+fn the_list_in_the_repository_is_this_one() {
+    let place = concat!(env!("CARGO_MANIFEST_DIR"), "/../crates/replay/stdin");
+    assert!(std::fs::read(place).unwrap() == make());
+}
+
 /// The mutants of these lists that the stored answers of a call do not find.
 fn missed(call: &str, bytes: &[u8], lists: Vec<Vec<Mutant>>) -> Vec<&'static str> {
     let found = |port: &dyn Port| {

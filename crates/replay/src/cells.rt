@@ -1,13 +1,22 @@
 // The buffers of a call: filled from the list, and compared with what stands there.
 ghost use mathlib.Core.Path.{_≡_};
+ghost use Prim.Native.Nat.{_≤_};
+ghost use lib.ListN.{length};
 ghost use lib.Ieee.{binary64, nanBits};
 use crate::words;
+use words::Length;
 use words::Place;
 
 // A number of 32 bits from the list, and the place past it.
-struct Number {
-    value: u32,
-    place: Place,
+pub struct Number {
+    pub value: u32,
+    pub place: Place,
+}
+
+// A float from the list, and the place past it.
+pub struct Real {
+    pub value: f64,
+    pub place: Place,
 }
 
 // ---- floats
@@ -27,6 +36,16 @@ fn float_of(bits: u64) -> f64 {
     f64::from_bits(bits)
 }
 
+// Reads a float.
+pub fn next_float(buf: &mut [u8], p: Place) -> Real {
+    let w = words::next(buf, p);
+    let place = w.place;
+    Real {
+        value: float_of(w.bits),
+        place,
+    }
+}
+
 // Has x this bit pattern? A NaN has that of any NaN.
 fn has_pattern(x: f64, bits: u64) -> bool {
     if x == x {
@@ -42,7 +61,7 @@ fn wide(n: u32) -> u64 {
 }
 
 // Reads a number of 32 bits. A word above those is taken as 0, and the list is damaged.
-fn next_number(buf: &mut [u8], p: Place) -> Number {
+pub fn next_number(buf: &mut [u8], p: Place) -> Number {
     let w = words::next(buf, p);
     let place = w.place;
     let n = w.bits;
@@ -98,7 +117,7 @@ pub fn compare_numbers(buf: &mut [u8], p: Place, cells: &[u32]) -> Place {
 }
 
 // Reads a word and compares a float with the one that has its bits.
-fn compare_float(buf: &mut [u8], p: Place, x: f64) -> Place {
+pub fn compare_float(buf: &mut [u8], p: Place, x: f64) -> Place {
     let w = words::next(buf, p);
     words::same_if(w.place, has_pattern(x, w.bits))
 }
@@ -112,6 +131,30 @@ pub fn compare_floats(buf: &mut [u8], p: Place, cells: &[f64]) -> Place {
         i += 1;
     }
     place
+}
+
+// ---- a length, and then the cells
+
+// Reads a length and as many numbers, to the front of a buffer.
+pub fn read_numbers(buf: &mut [u8], p: Place, cells: &mut [u32]) -> Length
+    requires { ⌜ 64 ≤ length (now cells) ⌝ }
+    ensures { λ r. ⌜ r .count ≤ length (now (cells .exit)) ⌝ }
+{
+    let n = words::next_length(buf, p);
+    let count = n.count;
+    let place = fill_numbers(buf, n.place, &mut cells[..count]);
+    Length { count, place }
+}
+
+// Reads a length and as many floats, to the front of a buffer.
+pub fn read_floats(buf: &mut [u8], p: Place, cells: &mut [f64]) -> Length
+    requires { ⌜ 64 ≤ length (now cells) ⌝ }
+    ensures { λ r. ⌜ r .count ≤ length (now (cells .exit)) ⌝ }
+{
+    let n = words::next_length(buf, p);
+    let count = n.count;
+    let place = fill_floats(buf, n.place, &mut cells[..count]);
+    Length { count, place }
 }
 
 // ---- a table of rows: its numbers, and then its floats

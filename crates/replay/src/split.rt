@@ -6,11 +6,11 @@ use words::MOST;
 use words::Place;
 
 // How many vertices, edges and wires the call was told, and the place past them.
-struct Counts {
-    vertices: usize,
-    edges: usize,
-    wires: usize,
-    place: Place,
+pub struct Counts {
+    pub vertices: usize,
+    pub edges: usize,
+    pub wires: usize,
+    pub place: Place,
 }
 
 // The answer as the list has it: 0 with the three counts, or the number of the refusal with zeros.
@@ -46,7 +46,7 @@ fn answer_of(s: Split) -> Answer {
     }
 }
 
-fn read_counts(buf: &mut [u8], p: Place) -> Counts {
+pub fn read_counts(buf: &mut [u8], p: Place) -> Counts {
     let vertices = words::next(buf, p);
     let edges = words::next(buf, vertices.place);
     let wires = words::next(buf, edges.place);

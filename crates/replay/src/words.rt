@@ -8,6 +8,9 @@ const PIECE: usize = 65536;
 // The most cells that a buffer of a call has.
 pub const MOST: usize = 64;
 
+// The answer "none" of a call.
+pub const NONE: u64 = u64::MAX;
+
 // A place in the list: where in the buffer the next word stands, how many words are left there, whether all of the list that
 // was read was whole, and whether all that was compared in this record was the same.
 pub struct Place {
