@@ -1,9 +1,9 @@
 -- What an input without a cause is: within its bounds and what was lent, and every row, kind and use in order.
 -- Assumes nothing.
-use mathlib.Core.Path.{_≡_, refl, ap, sym, _∙_}
+use mathlib.Core.Path.{_≡_, refl}
 use mathlib.Core.Bool.{Bool, true, false, _&&_}
 use mathlib.Core.List.{List}
-use Prim.Native.Nat.{ℕ, zero, suc, _+_, _*_, _/_, _≤_, _<_}
+use Prim.Native.Nat.{ℕ, suc, _+_, _*_, _/_, _≤_, _<_}
 use native.Mathlib.Omega.{arith}
 use borrow.Author.Tests.{ltb-false, leb-false, eq-eqb}
 use lib.Dec.{eqb, leb, ltb}
@@ -13,7 +13,7 @@ use Rattle.compress.specs.declared.Edge.{Edge}
 use Rattle.compress.specs.Records.{pick}
 use Rattle.compress.specs.Rows.{edgeAt, vertexAt}
 use Rattle.compress.specs.Wires.{total}
-use Rattle.checks.specs.Causes.{when, lowestOf, kindCause, curveKindCause, edgeCause, vertexCause, edgeNumberCause, edgeRowCause, vertexRowCause, edgesCause, verticesCause, usesCause, wiresCause}
+use Rattle.checks.specs.Causes.{when, kindCause, curveKindCause, edgeCause, vertexCause, edgeNumberCause, edgeRowCause, vertexRowCause, edgesCause, verticesCause, usesCause, wiresCause}
 use Rattle.checks.proofs.Lowest.{lower-none, lowest-none}
 
 -- a test with a cause of its own did not hold, and what follows it has none

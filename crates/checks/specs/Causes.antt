@@ -1,11 +1,11 @@
 -- Document 01's causes 1 to 5, of lone numbers, of records, of tables and of wires. A cause is its number, and 0 is none.
 -- "Every input is checked, used or not. The lowest number wins." Definitions only.
-use mathlib.Core.Bool.{Bool, true, false, not, _&&_, _||_}
+use mathlib.Core.Bool.{Bool, true, false, not, _&&_}
 use mathlib.Core.List.{List}
 use Prim.Native.Nat.{ℕ, zero, suc, _+_, _*_, _/_, min}
 use lib.Dec.{eqb, leb, ltb}
 use lib.ListN.{length, getD, take}
-use lib.Ieee.{Float, lt, le}
+use lib.Ieee.{Float, lt}
 use Rattle.floats.specs.Exact.{sizedOf, zeroF}
 use Rattle.compress.specs.declared.Uv.{Uv}
 use Rattle.compress.specs.declared.Curve.{Curve}

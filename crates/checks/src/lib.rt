@@ -1,7 +1,7 @@
 // Causes 1 to 5 of document 01's table, for tables, wires and lone numbers: every input is checked, and the lowest number wins.
 // A cause is its number, and 0 is none. Each check answers for all numbers; what it answers is a definition of specs/Causes.
 ghost use mathlib.Core.Path.{_≡_};
-ghost use Prim.Native.Nat.{ℕ, _+_, _*_, _/_, _≤_};
+ghost use Prim.Native.Nat.{_+_, _*_, _/_, _≤_};
 ghost use lib.Dec.{eqb};
 ghost use lib.ListN.{length, getD, take};
 ghost use Rattle.compress.specs.Records.{firstOf, lastOf};

@@ -1,12 +1,12 @@
 -- Rows of any layout: a row that is put leaves the others, rows may be put in any order, and rows put where they stand change nothing.
 -- Assumes nothing.
-use mathlib.Core.Path.{_≡_, refl, ap, sym, _∙_}
+use mathlib.Core.Path.{_≡_, refl, ap, _∙_}
 use mathlib.Core.List.{List, [], _∷_, _++_}
 use mathlib.Core.Logic.{_⊎_, inl, inr, ⊎-elim}
-use Prim.Native.Nat.{ℕ, zero, suc, _+_, _-_, _*_, _≤_, _<_}
+use Prim.Native.Nat.{ℕ, zero, suc, _+_, _*_, _≤_, _<_}
 use native.Mathlib.Omega.{arith}
 use lib.ListN.{length, getD}
-use lib.Seq.{sets, length-sets}
+use lib.Seq.{length-sets}
 use Rattle.compress.specs.Layout.{Layout, put, storeFrom, rows}
 use Rattle.compress.proofs.Cells.{getD-sets-at, getD-sets-out, sets-comm, row-below, apart}
 

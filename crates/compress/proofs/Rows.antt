@@ -1,6 +1,6 @@
 -- Rows of edges and of vertices: what was put is read back, other rows are untouched, and a record put where it stands changes nothing.
 -- Assumes nothing.
-use mathlib.Core.Path.{_≡_, refl, ap, sym, _∙_}
+use mathlib.Core.Path.{_≡_, refl, sym, _∙_}
 use mathlib.Core.Bool.{Bool, true, false}
 use mathlib.Core.List.{List, [], _∷_, _++_}
 use mathlib.Core.Logic.{_⊎_, inl, inr, ⊎-elim}
@@ -17,7 +17,7 @@ use Rattle.compress.specs.declared.Edge.{Edge}
 use Rattle.compress.specs.declared.Vertex.{Vertex}
 use Rattle.compress.specs.declared.Vertex.the-variants.{Given, Pending}
 use Rattle.compress.specs.Records.{pick, kindOf, numberOf}
-use Rattle.compress.specs.Layout.{Layout, put}
+use Rattle.compress.specs.Layout.{put}
 use Rattle.compress.specs.Rows.{curveOf, edgeOf, edgeAt, vertexOf, vertexAt, curveFirst, curveCells, vertexFirst, vertexCells, edgeNumbers, edgeFloats, vertexNumbers, vertexFloats}
 use Rattle.compress.proofs.Cells.{sets-append, sets-same, cellsAt}
 use Rattle.compress.proofs.Layouts.{Fits, put-at, put-other}

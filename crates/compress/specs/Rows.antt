@@ -2,7 +2,6 @@
 -- An edge's numbers: front, back, kind, curve or surface number; its floats: u, v, u, v, t0, t1, of which a span has the last two.
 -- A vertex's numbers: kind (0 given, 1 pending), curve kind, curve or surface number; its floats: x, y, z where it is given,
 -- else those of its curve and then the parameter.
-use mathlib.Core.Bool.{Bool, true, false}
 use mathlib.Core.List.{List, [], _∷_, _++_}
 use Prim.Native.Nat.{ℕ, _+_, _*_}
 use lib.ListN.{getD}

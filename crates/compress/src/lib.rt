@@ -1,7 +1,7 @@
 // The records of document 003 (`compress.rs`), the refusals of document 01, and the rows in which records lie in lent slices.
 ghost use mathlib.Core.Path.{_≡_};
 ghost use mathlib.Core.List.{_++_};
-ghost use Prim.Native.Nat.{ℕ, _+_, _*_, _≤_};
+ghost use Prim.Native.Nat.{_+_, _*_, _≤_};
 ghost use lib.ListN.{length, take, drop};
 ghost use lib.Seq.{sets};
 ghost use Rattle.compress.specs.Records.{frontOf, backOf, kindOf, numberOf};

@@ -10,7 +10,7 @@ use Rattle.compress.specs.Records.{pick}
 use Rattle.compress.specs.Refusals.{refusalNumber}
 use Rattle.compress.specs.Said.{Said, result, none, refused}
 use Rattle.compress.specs.Shell.{Slices, Counts, Lent}
-use Rattle.split_closed_edges.specs.Contract.{Outcome, outcomeOf}
+use Rattle.split_closed_edges.specs.Contract.{outcomeOf}
 use Rattle.nearest.specs.declared.Period.{Period}
 use Rattle.nearest.specs.declared.Period.the-variants.{Absent, Every}
 use Rattle.nearest.specs.declared.BoundaryType.{BoundaryType}

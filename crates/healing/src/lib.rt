@@ -4,8 +4,7 @@ mod kinds;
 mod periods;
 mod search;
 
-ghost use Rattle.compress.specs.Shell.{Slices, Counts, Lent};
-ghost use Rattle.split_closed_edges.specs.Contract.{lentOf, leaves};
+ghost use Rattle.split_closed_edges.specs.Contract.{lentOf};
 ghost use Rattle.healing.specs.Host.{HostSplit};
 use split_closed_edges::Split;
 

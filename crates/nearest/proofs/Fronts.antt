@@ -3,7 +3,7 @@
 use mathlib.Core.Path.{_≡_, refl, ap, sym, _∙_}
 use mathlib.Core.Bool.{Bool, true, false}
 use mathlib.Core.List.{List, [], _∷_, foldl}
-use Prim.Native.Nat.{ℕ, zero, suc, _+_, _*_, _/_, _≤_, _<_}
+use Prim.Native.Nat.{ℕ, _+_, _*_, _/_, _≤_, _<_}
 use native.Mathlib.Numerals.{add-one}
 use native.Mathlib.Omega.{arith}
 use lib.ListN.{length, getD, drop}
@@ -14,10 +14,10 @@ use Rattle.compress.specs.declared.Vertex.{Vertex}
 use Rattle.compress.specs.Records.{pick, forward, frontOf}
 use Rattle.compress.specs.Rows.{edgeAt}
 use Rattle.checks.specs.Causes.{verticesCause, edgesCause}
-use Rattle.checks.proofs.Accepted.{EdgesAccepted, edges-accepted, edge-ends, vertices-accepted}
+use Rattle.checks.proofs.Accepted.{edges-accepted, edge-ends, vertices-accepted}
 use Rattle.nearest.specs.Choice.{smaller}
-use Rattle.compress.specs.Said.{Said, result, none}
-use Rattle.nearest.specs.Ends.{gapFrom, frontAt, frontsOf, nearestFront, nearestEnds, endsFrom, Divisor}
+use Rattle.compress.specs.Said.{result, none}
+use Rattle.nearest.specs.Ends.{gapFrom, frontAt, frontsOf, nearestFront, nearestEnds, endsFrom}
 
 pick-below : (b : Bool) (x y v : ℕ) → x < v → y < v → pick b x y < v
 pick-below true x y v h k = h

@@ -23,7 +23,7 @@ use Rattle.nearest.specs.declared.Period.the-variants.{Absent, Every}
 use Rattle.nearest.specs.Choice.{zero64}
 use Rattle.nearest.specs.Unwrap.{one, candidatesOf, awayFrom, nearestOf, unwrapped}
 use Rattle.nearest.specs.Copies.{firstShift, laterShifts, shiftsOf, shifted, copiesAlong, copiesOver, from, nearestCopyOf}
-use Rattle.nearest.specs.Ends.{gapFrom, frontAt, frontsOf, nearestFront}
+use Rattle.nearest.specs.Ends.{gapFrom, frontsOf, nearestFront}
 use Rattle.nearest.proofs.Choices.{smallest-member, smallest-least}
 
 -- ---- unwrapping: the answer is one of the five candidates

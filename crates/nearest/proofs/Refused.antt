@@ -1,10 +1,10 @@
 -- The causes of the calls on lone numbers are numbers of the table.
 -- Assumes nothing.
-use Prim.Native.Nat.{ℕ, _≤_}
+use Prim.Native.Nat.{_≤_}
 use native.Mathlib.Omega.{arith}
 use lib.Ieee.{Float}
 use Rattle.compress.specs.declared.Uv.{Uv}
-use Rattle.checks.specs.Causes.{floatCause, periodCause, uvCause}
+use Rattle.checks.specs.Causes.{floatCause, uvCause}
 use Rattle.checks.proofs.Small.{lower-small, float-small, period-small, uv-small}
 use Rattle.nearest.specs.declared.Period.{Period}
 use Rattle.nearest.specs.declared.Period.the-variants.{Absent, Every}

@@ -7,19 +7,18 @@ use Prim.Native.Nat.{ℕ, zero, suc, _+_, _*_, _≤_, _<_}
 use native.Mathlib.Numerals.{add-one}
 use native.Mathlib.Omega.{arith}
 use borrow.Author.Tests.{eq-eqb, ne-eqb, lt-ltb, le-ltb, ltb-false}
-use lib.Dec.{eqb, ltb}
+use lib.Dec.{ltb}
 use lib.ListN.{length, take, drop, length-take}
 use lib.Seq.{sets, length-sets, length-take-le}
 use lib.Ieee.{Float}
 use Rattle.compress.specs.declared.Refusal.{Refusal}
 use Rattle.compress.specs.Records.{pick}
 use Rattle.compress.specs.Refusals.{refusalNumber, refusalOf}
-use Rattle.compress.specs.Said.{Said, result, none, refused}
+use Rattle.compress.specs.Said.{result, none, refused}
 use Rattle.compress.proofs.Cells.{take-sets}
-use Rattle.checks.specs.Causes.{lowestOf}
 use Rattle.checks.proofs.Accepted.{passed}
 use Rattle.checks.proofs.Small.{pick-small, lowest-small, refusal-told}
-use Rattle.nearest.specs.Kinds.{isWanted, wantedBelow, typeCauseAt, sortCause, SortOutcome, unsorted, sortChecked, causeOr, sortWires, firstPoint, lastPoint}
+use Rattle.nearest.specs.Kinds.{isWanted, wantedBelow, typeCauseAt, sortCause, SortOutcome, unsorted, causeOr, sortWires, firstPoint, lastPoint}
 use Rattle.nearest.proofs.Refused.{kind-cause-small}
 
 pub record Gathering (fs : List Float) (asked : Bool) (n : ℕ) (out₀ : List ℕ) (i at : ℕ) (out : List ℕ) : Type 0 where

@@ -1,5 +1,4 @@
 -- The first of the smallest in a row, as the Rust's `min_by` takes it. Definitions only.
-use mathlib.Core.Bool.{Bool}
 use mathlib.Core.List.{List, foldl}
 use lib.Ieee.{Float, binary64, lt, ofBits}
 use Rattle.compress.specs.Records.{pick}

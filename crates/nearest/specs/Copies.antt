@@ -5,7 +5,7 @@ use lib.Ieee.{Float, binary64, add, mul, neg}
 use Rattle.floats.specs.Exact.{two, distance2Uv}
 use Rattle.compress.specs.declared.Uv.{Uv}
 use Rattle.compress.specs.Refusals.{refusalNumber}
-use Rattle.compress.specs.Said.{Said, result, none, refused, refusedOr}
+use Rattle.compress.specs.Said.{Said, result, refused, refusedOr}
 use Rattle.checks.specs.Causes.{lowerOf, uvCause}
 use Rattle.nearest.specs.declared.Period.{Period}
 use Rattle.nearest.specs.declared.Period.the-variants.{Absent, Every}

@@ -1,9 +1,9 @@
 -- Nearest ends (`nearest_correction`). Edges and vertices are given by number. Definitions only.
 use mathlib.Core.List.{List, [], _∷_}
-use Prim.Native.Nat.{ℕ, _+_, _/_}
+use Prim.Native.Nat.{ℕ, _+_}
 use lib.Dec.{ltb}
 use lib.ListN.{length, take}
-use lib.Ieee.{Float, nan}
+use lib.Ieee.{Float}
 use Rattle.floats.specs.Exact.{distance2Xyz}
 use Rattle.compress.specs.declared.Edge.{Edge}
 use Rattle.compress.specs.declared.Vertex.{Vertex}

@@ -5,7 +5,7 @@ use lib.Ieee.{Float, binary64, add, sub, mul, neg, lt, ofBits}
 use Rattle.floats.specs.Exact.{two}
 use Rattle.compress.specs.Records.{pick}
 use Rattle.compress.specs.Refusals.{refusalNumber}
-use Rattle.compress.specs.Said.{Said, result, none, refused, refusedOr}
+use Rattle.compress.specs.Said.{Said, result, refused, refusedOr}
 use Rattle.checks.specs.Causes.{lowerOf, floatCause, periodCause}
 use Rattle.nearest.specs.declared.Period.{Period}
 use Rattle.nearest.specs.declared.Period.the-variants.{Absent, Every}

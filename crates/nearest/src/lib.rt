@@ -1,12 +1,12 @@
 // Document 000, `split_closed_faces.rs`: unwrapping, nearest copy, kind of wire, sorting of wires, nearest ends.
 ghost use mathlib.Core.Path.{_≡_};
-ghost use mathlib.Core.List.{List, [], _∷_, foldl};
+ghost use mathlib.Core.List.{[], _∷_, foldl};
 ghost use Prim.Native.Nat.{ℕ, _+_, _*_, _/_, _≤_, _<_};
 ghost use lib.ListN.{length, getD, take, drop};
 ghost use lib.Seq.{sets};
-ghost use lib.Ieee.{Float, nan};
+ghost use lib.Ieee.{nan};
 ghost use Rattle.nearest.specs.Choice.{smaller};
-ghost use Rattle.nearest.specs.Unwrap.{candidatesOf, sizeOf, awayFrom, nearestOf, unwrapped, periodCauseOf, unwrapCause, saidUnwrapped, getMindiff};
+ghost use Rattle.nearest.specs.Unwrap.{candidatesOf, sizeOf, awayFrom, unwrapped, periodCauseOf, unwrapCause, saidUnwrapped, getMindiff};
 ghost use Rattle.nearest.specs.Copies.{firstShift, laterShifts, shiftsOf, shifted, copiesAlong, copiesOver, from, nearestCopyOf, copyCause, saidCopy, nearestCopySaid};
 ghost use Rattle.nearest.specs.Kinds.{isClosed, boundaryType, kindCauseOf, saidKind, boundaryTypeSaid, typeAt, typeCauseAt, isOpen, same, isWanted, wantedBelow, sortCause, saidSorted, unsorted, sortWires};
 ghost use Rattle.nearest.specs.Ends.{pointOf, pointGap, gapFrom, frontAt, nearestFront, nearestEnds, saidEnds, tablesCause, stretchesCause, endsCause, nearestCorrection};

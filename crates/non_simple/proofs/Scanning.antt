@@ -1,9 +1,9 @@
 -- The search over all wires: the wires that are left give the same answer, until one of them does.
 -- Assumes nothing.
-use mathlib.Core.Path.{_≡_, refl, ap, sym, _∙_}
-use mathlib.Core.Bool.{Bool, true, false, true≢false, false≢true}
-use mathlib.Core.List.{List, [], _∷_, _++_}
-use Prim.Native.Nat.{ℕ, zero, suc, _+_, _-_, _*_, _/_, _%_, _≤_, _<_}
+use mathlib.Core.Path.{_≡_, refl, sym, _∙_}
+use mathlib.Core.Bool.{true, false, true≢false, false≢true}
+use mathlib.Core.List.{List, [], _++_}
+use Prim.Native.Nat.{ℕ, _+_, _-_, _/_, _%_, _≤_, _<_}
 use native.Mathlib.Nat.{mod-lt}
 use native.Mathlib.Omega.{arith}
 use lib.ListN.{length, getD, take, drop}
@@ -13,7 +13,7 @@ use Rattle.compress.specs.declared.Edge.{Edge}
 use Rattle.compress.specs.declared.Vertex.{Vertex}
 use Rattle.compress.specs.Said.{Said, result, refused}
 use Rattle.compress.specs.Wires.{total, wiresOf}
-use Rattle.compress.proofs.Wires.{lengths-first, wire-in, wires-first, wire-size, part-at}
+use Rattle.compress.proofs.Wires.{wire-in, wires-first, wire-size, part-at}
 use Rattle.checks.specs.Causes.{wiresCause}
 use Rattle.checks.proofs.Accepted.{wires-accepted, edges-accepted}
 use Rattle.checks.proofs.Lowest.{lower-none}
@@ -22,8 +22,8 @@ use Rattle.nearest.proofs.Accepted.{TablesAccepted, tables-accepted, tables-sma
 use Rattle.wires.specs.Turn.{turned}
 use Rattle.wires.proofs.Turns.{length-turned, getD-turned}
 use Rattle.nearest.specs.Ends.{Divisor, tablesCause}
-use Rattle.non_simple.specs.Loop.{Repeat, pair, firstRepeat}
-use Rattle.non_simple.specs.Divisor.{turnedDivisor, divisorFrom, wireDivisor, orNext, isNone, findDivisor, searchCause}
+use Rattle.non_simple.specs.Loop.{pair, firstRepeat}
+use Rattle.non_simple.specs.Divisor.{turnedDivisor, wireDivisor, orNext, isNone, findDivisor, searchCause}
 use Rattle.compress.specs.Said as said
 use Rattle.non_simple.specs.Loop as loop
 

@@ -2,9 +2,9 @@
 ghost use mathlib.Core.Path.{_≡_};
 ghost use Prim.Native.Nat.{ℕ, _+_, _-_, _/_, _≤_, _<_};
 ghost use lib.ListN.{length, getD, set};
-ghost use lib.ListN.{take, drop};
+ghost use lib.ListN.{take};
 ghost use Rattle.compress.specs.Rows.{edgeAt, vertexAt};
-ghost use Rattle.compress.specs.Wires.{total, wiresOf};
+ghost use Rattle.compress.specs.Wires.{wiresOf};
 ghost use Rattle.checks.specs.Causes.{verticesCause, edgesCause, wiresCause};
 ghost use Rattle.nearest.specs.Ends.{saidEnds};
 ghost use Rattle.non_simple.specs.Loop.{firstRepeat, repeatOf};

@@ -1,9 +1,9 @@
 -- Where `add_edges` stands: in every slice what is left to store gives the same at each turn.
 -- Assumes nothing.
-use mathlib.Core.Path.{_≡_, refl, ap, sym, _∙_}
+use mathlib.Core.Path.{_≡_, refl, sym, _∙_}
 use mathlib.Core.Bool.{Bool, true, false}
-use mathlib.Core.List.{List, [], _∷_, _++_}
-use Prim.Native.Nat.{ℕ, zero, suc, _+_, _-_, _*_, _≤_, _<_}
+use mathlib.Core.List.{List, _∷_, _++_}
+use Prim.Native.Nat.{ℕ, _+_, _-_, _*_, _≤_, _<_}
 use native.Mathlib.Omega.{arith}
 use lib.ListN.{length, getD}
 use lib.Ieee.{Float}
@@ -11,7 +11,7 @@ use Rattle.compress.specs.declared.Edge.{Edge}
 use Rattle.compress.specs.Records.{closed}
 use Rattle.compress.specs.Layout.{Layout, put, storeFrom, rows}
 use Rattle.compress.specs.Rows.{edgeAt, edgeNumbers, edgeFloats, vertexNumbers, vertexFloats}
-use Rattle.compress.proofs.Layouts.{length-put, store-none, store-append, put-other, rows-none, rows-first, rows-agree, length-rows}
+use Rattle.compress.proofs.Layouts.{store-none, store-append, put-other, rows-none, rows-first, rows-agree, length-rows}
 use Rattle.compress.proofs.Rows.{edge-other, edge-numbers-fit, edge-floats-fit, edge-numbers-stand, edge-floats-stand}
 use Rattle.split_closed_edges.specs.Cut.{middleOf, halvesOf}
 use Rattle.split_closed_edges.specs.Pass.{next, keptEdges, newEdges, newVertices}

@@ -1,19 +1,18 @@
 -- The tables, one turn of `add_edges` at a time.
 -- Assumes nothing.
-use mathlib.Core.Path.{_≡_, refl, ap, sym, _∙_}
+use mathlib.Core.Path.{_≡_, refl, ap, sym}
 use mathlib.Core.Bool.{Bool, true, false}
 use mathlib.Core.List.{List, [], _∷_, _++_}
-use Prim.Native.Nat.{ℕ, zero, suc, _+_, _-_, _*_, _≤_, _<_}
+use Prim.Native.Nat.{ℕ, suc, _+_, _≤_}
 use native.Mathlib.Omega.{arith}
 use borrow.Author.Tests.{eq-eqb, ne-eqb}
-use lib.ListN.{length, getD}
+use lib.ListN.{length}
 use lib.Ieee.{Float}
 use Rattle.compress.specs.declared.Edge.{Edge}
 use Rattle.compress.specs.declared.Vertex.{Vertex}
 use Rattle.compress.specs.Records.{closed}
-use Rattle.compress.specs.Layout.{Layout, put, storeFrom, rows}
-use Rattle.compress.specs.Rows.{edgeAt, edgeNumbers, edgeFloats, vertexNumbers, vertexFloats}
-use Rattle.compress.proofs.Layouts.{Fits, store-first, store-none, store-put, store-append}
+use Rattle.compress.specs.Layout.{Layout, put, storeFrom}
+use Rattle.compress.proofs.Layouts.{Fits, store-first, store-put}
 use Rattle.split_closed_edges.specs.declared.Halves.{Halves}
 use Rattle.split_closed_edges.specs.Cut.{middleOf, halvesOf, pendingOf}
 use Rattle.split_closed_edges.specs.Steps.{cutRows, pendingRow, closedCount}

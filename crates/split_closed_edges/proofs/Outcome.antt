@@ -3,7 +3,7 @@
 use mathlib.Core.Path.{_≡_, refl, ap, sym, _∙_}
 use mathlib.Core.Bool.{Bool, true, false, _&&_}
 use mathlib.Core.List.{List, [], _∷_, _++_}
-use Prim.Native.Nat.{ℕ, zero, suc, _+_, _-_, _*_, _/_, _≤_, _<_}
+use Prim.Native.Nat.{ℕ, zero, suc, _+_, _≤_, _<_}
 use native.Mathlib.Omega.{arith}
 use lib.ListN.{length, getD, take, drop, length-append}
 use lib.Seq.{length-take-le}
@@ -11,14 +11,14 @@ use lib.Ieee.{Float}
 use Rattle.compress.specs.declared.Edge.{Edge}
 use Rattle.compress.specs.Records.{closed, pick}
 use Rattle.compress.specs.Layout.{storeFrom, rows}
-use Rattle.compress.specs.Refusals.{refusalNumber, refusalOf}
-use Rattle.compress.specs.Rows.{edgeAt, vertexAt, edgeNumbers, edgeFloats, vertexNumbers, vertexFloats}
-use Rattle.compress.specs.Said.{Said, result, none, refused}
-use Rattle.compress.specs.Shell.{Shell, Slices, Lent, Counts, load, storeShell, countsOf, verticesFit, edgesFit, usesFit, hasRoom}
-use Rattle.compress.specs.Wires.{total, wiresOf, usesOf, lengthsOf}
+use Rattle.compress.specs.Refusals.{refusalOf}
+use Rattle.compress.specs.Rows.{edgeAt, vertexAt, vertexNumbers, vertexFloats}
+use Rattle.compress.specs.Said.{result, refused}
+use Rattle.compress.specs.Shell.{Shell, Slices, load, storeShell, countsOf, verticesFit, edgesFit, usesFit, hasRoom}
+use Rattle.compress.specs.Wires.{wiresOf, usesOf, lengthsOf}
 use Rattle.compress.proofs.Layouts.{length-rows, store-append, store-same}
 use Rattle.compress.proofs.Rows.{vertex-numbers-stand, vertex-floats-stand}
-use Rattle.compress.proofs.Room.{both, vertices-room, edges-room, uses-room}
+use Rattle.compress.proofs.Room.{both, vertices-room, edges-room}
 use Rattle.checks.specs.Causes.{verticesCause, edgesCause, wiresCause}
 use Rattle.checks.proofs.Accepted.{VerticesAccepted, EdgesAccepted, WiresAccepted, vertices-accepted, edges-accepted, wires-accepted}
 use Rattle.checks.proofs.Lowest.{lower-none}
@@ -26,7 +26,7 @@ use Rattle.checks.proofs.Small.{lower-small, vertices-small, edges-small, wires
 use Rattle.split_closed_edges.specs.declared.Split.the-variants.{Done, Refused}
 use Rattle.split_closed_edges.specs.Pass.{next, newEdge, newVertex, keptEdges, newEdges, newVertices, addedTo, replaceWires, splitClosedEdges}
 use Rattle.split_closed_edges.specs.Steps.{closedCount, Addable, Added, Marked, Replaceable, Mended}
-use Rattle.split_closed_edges.specs.Contract.{Outcome, lentOf, leaves, inputCause, resultOr, outcomeOf}
+use Rattle.split_closed_edges.specs.Contract.{lentOf, leaves, inputCause, resultOr, outcomeOf}
 use Rattle.split_closed_edges.proofs.Edges.{length-kept}
 use Rattle.split_closed_edges.proofs.Wiring.{length-replaced}
 

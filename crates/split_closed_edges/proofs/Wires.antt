@@ -3,15 +3,15 @@
 use mathlib.Core.Path.{_≡_, refl, ap, sym, _∙_}
 use mathlib.Core.Bool.{Bool, true, false}
 use mathlib.Core.List.{List, [], _∷_, _++_, append-assoc, append-nil}
-use Prim.Native.Nat.{ℕ, zero, suc, _+_, _*_, _/_, _%_, _≤_, _<_}
+use Prim.Native.Nat.{ℕ, _+_, _*_, _/_, _≤_, _<_}
 use native.Mathlib.Numerals.{add-one}
 use native.Mathlib.Omega.{arith}
 use lib.Dec.{eqb}
-use lib.ListN.{length, getD, take, drop, length-append, length-drop}
+use lib.ListN.{length, getD, take, drop, length-append}
 use lib.Seq.{sets, length-sets, drop-cons, drop-length, length-take-le}
 use Rattle.compress.specs.Records.{forward}
 use Rattle.compress.proofs.Cells.{take-sets}
-use Rattle.split_closed_edges.specs.Pass.{replacedBy, replaceUse, replaceEdges, replaceWires}
+use Rattle.split_closed_edges.specs.Pass.{replacedBy, replaceUse, replaceEdges}
 
 -- a use becomes one or two
 by-small : (b f : Bool) (u new : ℕ) → length (replacedBy b f u new) ≤ 2

@@ -2,11 +2,11 @@
 -- Assumes nothing.
 use mathlib.Core.Path.{_≡_, refl, ap, sym, _∙_}
 use mathlib.Core.List.{List, [], _∷_, _++_, append-assoc, append-nil}
-use Prim.Native.Nat.{ℕ, zero, suc, _+_, _-_, _*_, _/_, _≤_, _<_}
+use Prim.Native.Nat.{ℕ, suc, _+_, _-_, _*_, _/_, _≤_, _<_}
 use native.Mathlib.Numerals.{add-one}
 use native.Mathlib.Omega.{arith}
-use lib.ListN.{length, getD, set, take, drop, length-set, length-append, length-drop, length-take}
-use lib.Seq.{append-snoc, take-suc-set, take-append-le, take-append-add, length-take-le, drop-cons, drop-drop, drop-length, getD-take, getD-drop, take-all}
+use lib.ListN.{length, getD, set, take, drop, length-set, length-append, length-drop}
+use lib.Seq.{append-snoc, take-suc-set, take-append-le, take-append-add, length-take-le, drop-length, getD-take, getD-drop}
 use Rattle.compress.specs.Wires.{total, wiresOf, usesOf, lengthsOf}
 use Rattle.compress.proofs.Wires.{wire-in, wires-first, wire-size}
 use Rattle.split_closed_edges.specs.Pass.{replaceEdges, replaceWires}

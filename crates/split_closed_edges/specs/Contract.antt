@@ -1,12 +1,12 @@
 -- The contract of the call `split_closed_edges`: one answer and one content of every lent slice for each input. Definitions only.
-use mathlib.Core.Bool.{Bool, true, false, not}
+use mathlib.Core.Bool.{Bool, true, false}
 use mathlib.Core.List.{List}
 use Prim.Native.Nat.{ℕ, zero, suc}
 use lib.Ieee.{Float}
 use Rattle.compress.specs.Refusals.{refusalNumber}
-use Rattle.compress.specs.Said.{Said, result, none, refused}
+use Rattle.compress.specs.Said.{Said, result, refused}
 use Rattle.compress.specs.Shell.{Shell, Slices, Lent, Counts, load, storeShell, countsOf, hasRoom}
-use Rattle.checks.specs.Causes.{lowerOf, when, verticesCause, edgesCause, wiresCause}
+use Rattle.checks.specs.Causes.{lowerOf, verticesCause, edgesCause, wiresCause}
 use Rattle.split_closed_edges.specs.declared.Split.{Split}
 use Rattle.split_closed_edges.specs.declared.Split.the-variants.{Done, Refused}
 use Rattle.split_closed_edges.specs.Pass.{splitClosedEdges}

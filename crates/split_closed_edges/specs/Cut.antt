@@ -8,7 +8,7 @@ use Rattle.compress.specs.declared.Curve.{Curve}
 use Rattle.compress.specs.declared.Curve.the-variants.{Span, Seam}
 use Rattle.compress.specs.declared.Edge.{Edge}
 use Rattle.compress.specs.declared.Vertex.{Vertex}
-use Rattle.compress.specs.declared.Vertex.the-variants.{Given, Pending}
+use Rattle.compress.specs.declared.Vertex.the-variants.{Pending}
 use Rattle.compress.specs.Records.{firstOf, lastOf}
 use Rattle.split_closed_edges.specs.declared.Halves.{Halves}
 

@@ -1,18 +1,18 @@
 // Document 001, `split_closed_edges.rs`: every edge with equal ends is cut at the middle of its curve, and the wires are mended.
 ghost use mathlib.Core.Path.{_≡_};
-ghost use mathlib.Core.Bool.{Bool, true};
-ghost use mathlib.Core.List.{List, _++_};
+ghost use mathlib.Core.Bool.{true};
+ghost use mathlib.Core.List.{List};
 ghost use lib.Ieee.{Float};
 ghost use Prim.Native.Nat.{ℕ, _+_, _*_, _/_, _≤_, _<_};
-ghost use lib.ListN.{length, getD, take, drop};
+ghost use lib.ListN.{length, getD, take};
 ghost use lib.Seq.{sets};
 ghost use Rattle.compress.specs.Records.{closed, pick};
 ghost use Rattle.compress.specs.Layout.{rows};
 ghost use Rattle.compress.specs.Rows.{edgeAt, edgeNumbers, edgeFloats, vertexNumbers, vertexFloats};
-ghost use Rattle.compress.specs.Wires.{total, wiresOf, usesOf, lengthsOf};
+ghost use Rattle.compress.specs.Wires.{wiresOf};
 ghost use Rattle.split_closed_edges.specs.Cut.{Middle, upTo, fromOn, halvesOf, pendingOf};
-ghost use Rattle.split_closed_edges.specs.Pass.{next, addedTo, replaceUse, replaceEdges, replaceWires};
-ghost use Rattle.split_closed_edges.specs.Steps.{cutRows, pendingRow, closedCount, PlaceFor, Addable, Added, Marked, Replaceable, Mended};
+ghost use Rattle.split_closed_edges.specs.Pass.{next, replaceUse, replaceEdges, replaceWires};
+ghost use Rattle.split_closed_edges.specs.Steps.{cutRows, pendingRow, PlaceFor, Addable, Added, Marked, Replaceable, Mended};
 ghost use Rattle.split_closed_edges.specs.Parts.{usesOfParts};
 ghost use Rattle.split_closed_edges.specs.Contract.{lentOf, leaves, inputCause, outcomeOf};
 use compress::Curve;
