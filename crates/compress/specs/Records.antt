@@ -25,6 +25,13 @@ frontOf e u = pick (forward u) (e .front) (e .back)
 unfoldable pub backOf : Edge → ℕ → ℕ
 backOf e u = pick (forward u) (e .back) (e .front)
 
+-- front and back of a use, where the edges are given by number
+unfoldable pub frontAt : (ℕ → Edge) → ℕ → ℕ
+frontAt es u = frontOf (es (edgeOfUse u)) u
+
+unfoldable pub backAt : (ℕ → Edge) → ℕ → ℕ
+backAt es u = backOf (es (edgeOfUse u)) u
+
 -- "an edge with equal ends"
 unfoldable pub closed : Edge → Bool
 closed e = eqb (e .front) (e .back)

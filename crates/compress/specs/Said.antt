@@ -6,6 +6,12 @@ pub data Said (A : Type 0) : Type 0 where
   none : Said A
   refused : ℕ → Said A
 
+-- what is said of a result; "none" and a refusal stay
+abbrev pub onResult : {A B : Type 0} → Said A → (A → Said B) → Said B
+onResult (result a) f = f a
+onResult none f = none
+onResult (refused n) f = refused n
+
 -- a cause, by its number, ahead of what would be said without one; 0 is no cause
 abbrev pub refusedOr : {A : Type 0} → ℕ → Said A → Said A
 refusedOr zero s = s

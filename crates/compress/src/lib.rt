@@ -1,10 +1,10 @@
 // The records of document 003 (`compress.rs`), the refusals of document 01, and the rows in which records lie in lent slices.
 ghost use mathlib.Core.Path.{_≡_};
 ghost use mathlib.Core.List.{_++_};
-ghost use Prim.Native.Nat.{_+_, _*_, _≤_};
+ghost use Prim.Native.Nat.{_+_, _*_, _/_, _≤_};
 ghost use lib.ListN.{length, take, drop};
 ghost use lib.Seq.{sets};
-ghost use Rattle.compress.specs.Records.{frontOf, backOf, kindOf, numberOf};
+ghost use Rattle.compress.specs.Records.{frontOf, backOf, frontAt, kindOf, numberOf};
 ghost use Rattle.compress.specs.Refusals.{refusalNumber, refusalOf};
 ghost use Rattle.compress.specs.Layout.{put};
 ghost use Rattle.compress.specs.Shell.{verticesFit, edgesFit, usesFit};
@@ -208,6 +208,15 @@ pub fn edge_at(numbers: &[u32], floats: &[f64], i: usize) -> Edge
         floats[b + 4],
         floats[b + 5],
     )
+}
+
+// The front of a use.
+pub fn front_at(numbers: &[u32], floats: &[f64], u: u32) -> u32
+    requires { ⌜ (u / 2 * 4 + 4 ≤ length (now numbers)) × (u / 2 * 6 + 6 ≤ length (now floats)) ⌝ }
+    ensures { λ r. ⌜ r ≡ frontAt (edgeAt (now (numbers .entry)) (now (floats .entry))) u ⌝ }
+{
+    let i = (u / 2) as usize;
+    front(edge_at(numbers, floats, i), u)
 }
 
 // The vertex of row i.

@@ -3,11 +3,11 @@
 use mathlib.Core.Path.{_≡_, ap, sym, _∙_}
 use Rattle.compress.specs.declared.Refusal.{Refusal}
 use Rattle.compress.specs.Refusals.{refusalNumber}
-use Rattle.compress.specs.Said.{Said, result, refused}
+use Rattle.compress.specs.Said.{Said, result, refused, onResult}
 use Rattle.nearest.specs.declared.Period.{Period}
 use Rattle.healing.specs.declared.periods.Asked.{Asked}
 use Rattle.healing.specs.declared.periods.Asked.the-variants.{Known, Unknown}
-use Rattle.healing.specs.Host.{saidPeriod, onResult}
+use Rattle.healing.specs.Host.{saidPeriod}
 
 module _ {A : Type 0} (g : Period → Said A) {a : Asked} {s : Said Period} (q : saidPeriod a ≡ s) where
   pub asked-known : {p : Period} {x : Said A} → a ≡ Known p → x ≡ g p → x ≡ onResult s g

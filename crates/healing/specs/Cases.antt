@@ -9,7 +9,7 @@ use Rattle.compress.specs.declared.Edge.{Edge}
 use Rattle.compress.specs.declared.Uv.{Uv}
 use Rattle.compress.specs.declared.Vertex.{Vertex}
 use Rattle.compress.specs.declared.Vertex.the-variants.{Given, Pending}
-use Rattle.compress.specs.Records.{closed, frontOf}
+use Rattle.compress.specs.Records.{closed, frontOf, frontAt}
 use Rattle.compress.specs.Said.{Said, result, none, refused}
 use Rattle.compress.specs.Shell.{Shell}
 use Rattle.checks.specs.Causes.{lowerOf, floatCause, periodCause, uvCause}
@@ -19,7 +19,7 @@ use Rattle.nearest.specs.declared.Period.{Period}
 use Rattle.nearest.specs.declared.Period.the-variants.{Absent, Every}
 use Rattle.nearest.specs.Choice.{smaller}
 use Rattle.nearest.specs.Unwrap.{awayFrom, nearestOf, unwrapped, periodCauseOf, unwrapCause, getMindiff}
-use Rattle.nearest.specs.Ends.{Divisor, pointOf, pointGap, gapFrom, frontAt, frontsOf, nearestFront, nearestEnds}
+use Rattle.nearest.specs.Ends.{Divisor, pointOf, pointGap, gapFrom, frontsOf, nearestFront, nearestEnds}
 use Rattle.wires.specs.Turn.{turned}
 use Rattle.non_simple.specs.Loop.{nothing, insert, searched, firstRepeat}
 use Rattle.non_simple.specs.Divisor.{secondPair, dividedBy, turnedDivisor, wireDivisor, findDivisor}

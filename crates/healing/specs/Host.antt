@@ -8,7 +8,7 @@ use lib.IntN.{ℤ, pos, negsuc}
 use Rattle.compress.specs.declared.Uv.{Uv}
 use Rattle.compress.specs.Records.{pick}
 use Rattle.compress.specs.Refusals.{refusalNumber}
-use Rattle.compress.specs.Said.{Said, result, none, refused}
+use Rattle.compress.specs.Said.{Said, result, none, refused, onResult}
 use Rattle.compress.specs.Shell.{Slices, Counts, Lent}
 use Rattle.split_closed_edges.specs.Contract.{outcomeOf}
 use Rattle.nearest.specs.declared.Period.{Period}
@@ -37,12 +37,6 @@ placesAfter (refused n) before = before
 pub record Told {A : Type 0} (s : Said A) (before after : A) (r : ℤ) : Type 0 where
   pub code : r ≡ codeOf s
   pub places : after ≡ placesAfter s before
-
--- what is said of a result; "none" and a refusal stay
-abbrev pub onResult : {A B : Type 0} → Said A → (A → Said B) → Said B
-onResult (result a) f = f a
-onResult none f = none
-onResult (refused n) f = refused n
 
 -- ---- the closed-edge pass, for a host
 pub record HostSplit (l : Lent) (before after : Counts) (slices : Slices) (r : ℤ) : Type 0 where

@@ -11,13 +11,13 @@ use lib.Seq.{drop-cons, drop-length}
 use lib.Ieee.{Float, lt}
 use Rattle.compress.specs.declared.Edge.{Edge}
 use Rattle.compress.specs.declared.Vertex.{Vertex}
-use Rattle.compress.specs.Records.{pick, forward, frontOf}
+use Rattle.compress.specs.Records.{pick, forward, frontOf, frontAt}
 use Rattle.compress.specs.Rows.{edgeAt}
 use Rattle.checks.specs.Causes.{verticesCause, edgesCause}
 use Rattle.checks.proofs.Accepted.{edges-accepted, edge-ends, vertices-accepted}
 use Rattle.nearest.specs.Choice.{smaller}
 use Rattle.compress.specs.Said.{result, none}
-use Rattle.nearest.specs.Ends.{gapFrom, frontAt, frontsOf, nearestFront, nearestEnds, endsFrom}
+use Rattle.nearest.specs.Ends.{gapFrom, frontsOf, nearestFront, nearestEnds, endsFrom}
 
 pick-below : (b : Bool) (x y v : ℕ) → x < v → y < v → pick b x y < v
 pick-below true x y v h k = h

@@ -8,7 +8,7 @@ use Rattle.floats.specs.Exact.{distance2Xyz}
 use Rattle.compress.specs.declared.Edge.{Edge}
 use Rattle.compress.specs.declared.Vertex.{Vertex}
 use Rattle.compress.specs.declared.Vertex.the-variants.{Given, Pending}
-use Rattle.compress.specs.Records.{pick, edgeOfUse, frontOf}
+use Rattle.compress.specs.Records.{pick, frontAt}
 use Rattle.compress.specs.Refusals.{refusalNumber}
 use Rattle.compress.specs.Rows.{edgeAt, vertexAt}
 use Rattle.compress.specs.Said.{Said, result, none, refused, refusedOr}
@@ -30,10 +30,7 @@ pointGap p q = distance2Xyz (p .x) (p .y) (p .z) (q .x) (q .y) (q .z)
 unfoldable pub gapFrom : (ℕ → Vertex) → ℕ → ℕ → Float
 gapFrom vs p v = pointGap (pointOf (vs p)) (pointOf (vs v))
 
--- the front of a use, and of each use of a stretch
-unfoldable pub frontAt : (ℕ → Edge) → ℕ → ℕ
-frontAt es u = frontOf (es (edgeOfUse u)) u
-
+-- the front of each use of a stretch
 unfoldable pub frontsOf : (ℕ → Edge) → List ℕ → List ℕ
 frontsOf es [] = []
 frontsOf es (u ∷ us) = frontAt es u ∷ frontsOf es us

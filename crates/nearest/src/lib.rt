@@ -9,7 +9,7 @@ ghost use Rattle.nearest.specs.Choice.{smaller};
 ghost use Rattle.nearest.specs.Unwrap.{candidatesOf, sizeOf, awayFrom, unwrapped, periodCauseOf, unwrapCause, saidUnwrapped, getMindiff};
 ghost use Rattle.nearest.specs.Copies.{firstShift, laterShifts, shiftsOf, shifted, copiesAlong, copiesOver, from, nearestCopyOf, copyCause, saidCopy, nearestCopySaid};
 ghost use Rattle.nearest.specs.Kinds.{isClosed, boundaryType, kindCauseOf, saidKind, boundaryTypeSaid, typeAt, typeCauseAt, isOpen, same, isWanted, wantedBelow, sortCause, saidSorted, unsorted, sortWires};
-ghost use Rattle.nearest.specs.Ends.{pointOf, pointGap, gapFrom, frontAt, nearestFront, nearestEnds, saidEnds, tablesCause, stretchesCause, endsCause, nearestCorrection};
+ghost use Rattle.nearest.specs.Ends.{pointOf, pointGap, gapFrom, nearestFront, nearestEnds, saidEnds, tablesCause, stretchesCause, endsCause, nearestCorrection};
 ghost use Rattle.checks.specs.Causes.{lowestOf, verticesCause, edgesCause};
 ghost use Rattle.compress.specs.Rows.{edgeAt, vertexAt};
 ghost use Rattle.compress.specs.Records.{pick};
@@ -457,15 +457,6 @@ fn gap_from(numbers: &[u32], floats: &[f64], p: u32, v: u32) -> f64
     point_gap(a, b)
 }
 
-// The front of a use.
-pub fn front_at(numbers: &[u32], floats: &[f64], u: u32) -> u32
-    requires { ⌜ (u / 2 * 4 + 4 ≤ length (now numbers)) × (u / 2 * 6 + 6 ≤ length (now floats)) ⌝ }
-    ensures { λ r. ⌜ r ≡ frontAt (edgeAt (now (numbers .entry)) (now (floats .entry))) u ⌝ }
-{
-    let i = (u / 2) as usize;
-    compress::front(compress::edge_at(numbers, floats, i), u)
-}
-
 // Of two vertices the one that is nearer to p; a on a tie.
 fn nearer_vertex(numbers: &[u32], floats: &[f64], p: u32, a: u32, b: u32) -> u32
     requires { ⌜ (p * 3 + 3 ≤ length (now numbers)) × (p * 7 + 7 ≤ length (now floats)) ⌝ }
@@ -492,10 +483,10 @@ fn nearest_front(
     requires { ⌜ (0 < length (now stretch)) × (p < vertices) × ((k : ℕ) → k < length (now stretch) → getD (now stretch) k 0 / 2 < edges) ⌝ }
     ensures { λ r. ⌜ (r ≡ nearestFront (edgeAt (now («edge_numbers» .entry)) (now («edge_floats» .entry))) (vertexAt (now («vertex_numbers» .entry)) (now («vertex_floats» .entry))) p (getD (now (stretch .entry)) 0 0) (drop 1 (now (stretch .entry)))) × (r < vertices) ⌝ }
 {
-    let mut best = front_at(edge_numbers, edge_floats, stretch[0]);
+    let mut best = compress::front_at(edge_numbers, edge_floats, stretch[0]);
     let mut i: usize = 1;
     while i < stretch.len() {
-        let v = front_at(edge_numbers, edge_floats, stretch[i]);
+        let v = compress::front_at(edge_numbers, edge_floats, stretch[i]);
         best = nearer_vertex(vertex_numbers, vertex_floats, p, best, v);
         i += 1;
     }

@@ -10,7 +10,8 @@ use Rattle.compress.specs.declared.Edge.{Edge}
 use Rattle.compress.specs.declared.Vertex.{Vertex}
 use Rattle.compress.specs.Said.{Said, refused}
 use Rattle.compress.proofs.Wires.{part-at, part-size}
-use Rattle.nearest.specs.Ends.{Divisor, frontAt, nearestEnds}
+use Rattle.compress.specs.Records.{frontAt}
+use Rattle.nearest.specs.Ends.{Divisor, nearestEnds}
 use Rattle.non_simple.specs.declared.Second.{Second}
 use Rattle.non_simple.specs.Loop.{Repeat, none, pair, firstRepeat}
 use Rattle.non_simple.specs.Divisor.{halfUp, secondPair, stretch, dividedBy, turnedDivisor}

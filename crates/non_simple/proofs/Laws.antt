@@ -9,12 +9,12 @@ use lib.ListN.{length, getD, take, drop}
 use lib.Ieee.{Float}
 use Rattle.compress.specs.declared.Edge.{Edge}
 use Rattle.compress.specs.declared.Vertex.{Vertex}
-use Rattle.compress.specs.Records.{pick}
+use Rattle.compress.specs.Records.{pick, frontAt}
 use Rattle.compress.specs.Rows.{edgeAt, vertexAt}
 use Rattle.compress.specs.Said.{Said, result, none, refused, refusedOr}
 use Rattle.compress.specs.Wires.{wiresOf}
 use Rattle.wires.specs.Turn.{turned}
-use Rattle.nearest.specs.Ends.{Divisor, frontAt, frontsOf, nearestFront, nearestEnds, endsFrom}
+use Rattle.nearest.specs.Ends.{Divisor, frontsOf, nearestFront, nearestEnds, endsFrom}
 use Rattle.nearest.proofs.Laws.{front-member}
 use Rattle.non_simple.specs.declared.Second.{Second}
 use Rattle.non_simple.specs.Loop.{Repeat, pair, firstRepeat}

@@ -7,13 +7,13 @@ use lib.ListN.{length, getD, take, drop}
 use lib.Ieee.{Float}
 use Rattle.compress.specs.declared.Edge.{Edge}
 use Rattle.compress.specs.declared.Vertex.{Vertex}
-use Rattle.compress.specs.Records.{pick}
+use Rattle.compress.specs.Records.{pick, frontAt}
 use Rattle.compress.specs.Rows.{edgeAt, vertexAt}
 use Rattle.compress.specs.Said.{Said, result, refused, refusedOr}
 use Rattle.compress.specs.Wires.{wiresOf}
 use Rattle.checks.specs.Causes.{lowerOf, wiresCause}
 use Rattle.wires.specs.Turn.{turned}
-use Rattle.nearest.specs.Ends.{Divisor, frontAt, nearestEnds, tablesCause}
+use Rattle.nearest.specs.Ends.{Divisor, nearestEnds, tablesCause}
 use Rattle.non_simple.specs.declared.Second.{Second}
 use Rattle.non_simple.specs.Loop.{Repeat, pair, firstRepeat}
 use Rattle.compress.specs.Said as said

@@ -105,7 +105,7 @@ fn turned_divisor(
     if k1 >= wire.len() {
         return Ends::EndsRefused(Refusal::PastEnd);
     }
-    let v0 = nearest::front_at(edge_numbers, edge_floats, wire[k0]);
+    let v0 = compress::front_at(edge_numbers, edge_floats, wire[k0]);
     let c = a + 1;
     nearest::nearest_ends(
         vertex_numbers,

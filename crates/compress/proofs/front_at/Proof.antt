@@ -1,8 +1,8 @@
--- `nearest::front_at` meets its contract. Assumes nothing.
+-- `compress::front_at` meets its contract. Assumes nothing.
 use borrow.Author.Needs.{needs}
-use Rattle.nearest.specs.Ends.{frontAt}
-use Rattle.nearest.proofs.front_at.Statement.{statement}
-use Rattle.nearest.proofs.front_at.Tie as tie
+use Rattle.compress.specs.Records.{frontAt}
+use Rattle.compress.proofs.front_at.Statement.{statement}
+use Rattle.compress.proofs.front_at.Tie as tie
 
 cast-i : tie.Need-cast-i
 cast-i c = search needs
