@@ -5,7 +5,7 @@ use mathlib.Core.List.{List, [], _∷_, _++_}
 use mathlib.Core.Logic.{_⊎_, inl, inr, ⊎-elim}
 use Prim.Native.Nat.{ℕ, zero, suc, _+_, _*_, _≤_, _<_}
 use native.Mathlib.Omega.{arith}
-use lib.ListN.{length, getD}
+use lib.ListN.{length, getD, set}
 use lib.Seq.{length-sets}
 use Rattle.compress.specs.Layout.{Layout, put, storeFrom, rows}
 use Rattle.compress.proofs.Cells.{getD-sets-at, getD-sets-out, sets-comm, row-below, apart}
@@ -150,3 +150,22 @@ store-same {A} l s at i zero h = refl
 store-same {A} l s at i (suc n) h =
     ap (λ (x : List A). storeFrom l x (i + 1) (rows at (i + 1) n)) (h i (omega arith) (omega arith))
     ∙ store-same l s at (i + 1) n (λ j lo hi. h j (omega arith) (omega arith))
+
+-- and so just the row that is another one is put
+pub store-set : {A R : Type 0} (l : Layout A R) (fit : Fits l) (s : List A) (at : ℕ → R) (i n k : ℕ) (r : R) → k < n
+    → ((j : ℕ) → i ≤ j → j < i + n → put l s j (at j) ≡ s) → storeFrom l s i (set (rows at i n) k r) ≡ put l s (i + k) r
+unfolding storeFrom rows
+store-set l fit s at i zero k r lt h = absurd (none lt)
+  where
+    none : k < 0 → ⊥
+    none g = omega arith
+store-set {A} l fit s at i (suc n) zero r lt h =
+    let p : i + 0 ≡ i = omega arith in
+    rw p
+    (store-same l (put l s i r) at (i + 1) n
+    (λ j lo hi. put-comm l fit s i j r (at j) (omega arith) ∙ ap (λ (x : List A). put l x i r) (h j (omega arith) (omega arith))))
+store-set {A} l fit s at i (suc n) (suc k) r lt h =
+    let p : i + suc k ≡ (i + 1) + k = omega arith in
+    rw p
+    (ap (λ (x : List A). storeFrom l x (i + 1) (set (rows at (i + 1) n) k r)) (h i (omega arith) (omega arith))
+    ∙ store-set l fit s at (i + 1) n k r (omega arith) (λ j lo hi. h j (omega arith) (omega arith)))

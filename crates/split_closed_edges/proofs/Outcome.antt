@@ -9,13 +9,14 @@ use lib.ListN.{length, getD, take, drop, length-append}
 use lib.Seq.{length-take-le}
 use lib.Ieee.{Float}
 use Rattle.compress.specs.declared.Edge.{Edge}
+use Rattle.compress.specs.declared.Vertex.{Vertex}
 use Rattle.compress.specs.Records.{closed, pick}
 use Rattle.compress.specs.Layout.{storeFrom, rows}
 use Rattle.compress.specs.Refusals.{refusalOf}
 use Rattle.compress.specs.Rows.{edgeAt, vertexAt, vertexNumbers, vertexFloats}
 use Rattle.compress.specs.Said.{result, refused}
 use Rattle.compress.specs.Shell.{Shell, Slices, load, storeShell, countsOf, verticesFit, edgesFit, usesFit, hasRoom}
-use Rattle.compress.specs.Wires.{wiresOf, usesOf, lengthsOf}
+use Rattle.compress.specs.Wires.{wiresOf, usesOf, lengthsOf, over}
 use Rattle.compress.proofs.Layouts.{length-rows, store-append, store-same}
 use Rattle.compress.proofs.Rows.{vertex-numbers-stand, vertex-floats-stand}
 use Rattle.compress.proofs.Room.{both, vertices-room, edges-room}
@@ -26,7 +27,7 @@ use Rattle.checks.proofs.Small.{lower-small, vertices-small, edges-small, wires
 use Rattle.split_closed_edges.specs.declared.Split.the-variants.{Done, Refused}
 use Rattle.split_closed_edges.specs.Pass.{next, newEdge, newVertex, keptEdges, newEdges, newVertices, addedTo, replaceWires, splitClosedEdges}
 use Rattle.split_closed_edges.specs.Steps.{closedCount, Addable, Added, Marked, Replaceable, Mended}
-use Rattle.split_closed_edges.specs.Contract.{lentOf, leaves, inputCause, resultOr, outcomeOf}
+use Rattle.split_closed_edges.specs.Contract.{lentOf, leaves, Outcome, inputCause, resultOf, causeOr, outcomeOf}
 use Rattle.split_closed_edges.proofs.Edges.{length-kept}
 use Rattle.split_closed_edges.proofs.Wiring.{length-replaced}
 
@@ -85,23 +86,27 @@ length-added (e ∷ es) m = ap suc (length-added es (next (closed e) m))
 
 -- ---- the three ways out of the definition
 module _ (k : ℕ) (s : Slices) (r : Shell) where
-  way-done : k ≡ 0 → hasRoom s (countsOf r) ≡ true → resultOr k s r ≡ record { said = result (countsOf r); slices = storeShell s r }
+  pub way-done : k ≡ 0 → hasRoom s (countsOf r) ≡ true → causeOr k s (resultOf s r) ≡ record { said = result (countsOf r); slices = storeShell s r }
   way-done p q = rw (p, q)
 
-  way-full : k ≡ 0 → hasRoom s (countsOf r) ≡ false → resultOr k s r ≡ record { said = refused 6; slices = s }
+  pub way-full : k ≡ 0 → hasRoom s (countsOf r) ≡ false → causeOr k s (resultOf s r) ≡ record { said = refused 6; slices = s }
   way-full p q = rw (p, q)
 
-way-cause : (k : ℕ) (s : Slices) (r : Shell) → (k ≡ 0 → ⊥) → resultOr k s r ≡ record { said = refused k; slices = s }
-way-cause zero s r ne = absurd (ne refl)
-way-cause (suc k) s r ne = refl
+pub way-cause : (k : ℕ) (s : Slices) (o : Outcome) → (k ≡ 0 → ⊥) → causeOr k s o ≡ record { said = refused k; slices = s }
+way-cause zero s o ne = absurd (ne refl)
+way-cause (suc k) s o ne = refl
 
 module _ (vn : List ℕ) (vf : List Float) (en : List ℕ) (ef : List Float) (us ls : List ℕ) (v e w : ℕ) where
+  pub input-small : inputCause (lentOf vn vf en ef us ls v e w) ≤ 15
+  unfolding inputCause
+  input-small = lower-small (verticesCause vn vf v) _ (vertices-small vn vf v) (lower-small (edgesCause v en ef e) _ (edges-small v en ef e) (wires-small e us ls w))
+
   -- a cause: its refusal, and nothing written
   pub outcome-cause : (k : ℕ) → k ≡ inputCause (lentOf vn vf en ef us ls v e w) → (k ≡ 0 → ⊥)
       → leaves (Refused (refusalOf k)) vn vf en ef us ls ≡ outcomeOf (lentOf vn vf en ef us ls v e w)
-  unfolding outcomeOf inputCause
+  unfolding outcomeOf
   outcome-cause k q ne =
-      let small : k ≤ 15 = rw q (lower-small (verticesCause vn vf v) _ (vertices-small vn vf v) (lower-small (edgesCause v en ef e) _ (edges-small v en ef e) (wires-small e us ls w))) in
+      let small : k ≤ 15 = rw q input-small in
       rw (refusal-told k small ne, ← q, way-cause k _ _ ne)
 
   -- ---- no cause
@@ -130,6 +135,45 @@ module _ (vn : List ℕ) (vf : List Float) (en : List ℕ) (ef : List Float) (us
       let l : length edgesIn ≡ e = length-rows (edgeAt en ef) 0 e in
       rw l (rw l at (m .map))
 
+  -- the wires can be mended by a map that has a small number for each edge
+  pub replaceable-by : Accepted → (added out ol : List ℕ) → length added ≡ e → ((k : ℕ) → getD added k 0 < 2147483648)
+      → 2048 ≤ length out → 64 ≤ length ol → Replaceable us ls w added out ol
+  replaceable-by A added out ol n small ho hl =
+      record {
+        wires-le = A .wires .lengths;
+        few = A .wires .few;
+        lent = A .wires .uses;
+        edges = λ k h. rw n (A .wires .edges k h);
+        small = small;
+        room = omega (arith, A .wires .few);
+        places = omega (arith, A .wires .below);
+      }
+
+  -- the mended wires, copied over the front of what was lent
+  pub uses-over : (ws : List (List ℕ)) (n : ℕ) (out ol us′ : List ℕ) → Mended ws out ol n → us′ ≡ take n out ++ drop n us → us′ ≡ over (usesOf ws) us
+  uses-over ws n out ol us′ M q = rw (← M .count) (q ∙ rw (M .uses))
+
+  pub lengths-over : (added : List ℕ) (n : ℕ) (out ol ls′ : List ℕ) → Accepted → Mended (replaceWires added (wiresOf us (take w ls))) out ol n
+      → ls′ ≡ take w ol ++ drop w ls → ls′ ≡ over (lengthsOf (replaceWires added (wiresOf us (take w ls)))) ls
+  lengths-over added n out ol ls′ A M q =
+      let ws = replaceWires added (wiresOf us (take w ls)) in
+      let lw : length ws ≡ w = length-replaced added us (take w ls) ∙ length-take-le w ls (A .wires .lengths) in
+      let ll : length (lengthsOf ws) ≡ w = length-lengths ws ∙ lw in
+      let t : take w ol ≡ lengthsOf ws = rw lw at (M .lengths) in
+      rw ll (q ∙ rw t)
+
+  -- the vertices lent, stored again with others behind them, are themselves
+  pub vertices-stand : Accepted → (vs : List Vertex)
+      → (storeFrom vertexNumbers vn 0 (rows (vertexAt vn vf) 0 v ++ vs) ≡ storeFrom vertexNumbers vn v vs)
+      × (storeFrom vertexFloats vf 0 (rows (vertexAt vn vf) 0 v ++ vs) ≡ storeFrom vertexFloats vf v vs)
+  vertices-stand A vs =
+      let lent = rows (vertexAt vn vf) 0 v in
+      let l : 0 + length lent ≡ v = omega (arith, length-rows (vertexAt vn vf) 0 v) in
+      let p : storeFrom vertexNumbers vn 0 lent ≡ vn
+      = store-same vertexNumbers vn (vertexAt vn vf) 0 v (λ j lo hi. vertex-numbers-stand vn vf j (A .vertices .kinds j (omega arith)) (A .vertices .curve-kinds j (omega arith))) in
+      let q : storeFrom vertexFloats vf 0 lent ≡ vf = store-same vertexFloats vf (vertexAt vn vf) 0 v (λ j lo hi. vertex-floats-stand vn vf j) in
+      (store-append vertexNumbers lent vs vn 0 ∙ rw (l, p), store-append vertexFloats lent vs vf 0 ∙ rw (l, q))
+
   -- the wires can be mended
   pub replaceable : inputCause (lentOf vn vf en ef us ls v e w) ≡ 0 → (added : List ℕ) (cuts : ℕ) (out ol : List ℕ) → Marked edgesIn added cuts
       → 2048 ≤ length out → 64 ≤ length ol → Replaceable us ls w (take e added) out ol
@@ -138,15 +182,7 @@ module _ (vn : List ℕ) (vf : List Float) (en : List ℕ) (ef : List Float) (us
       let q = marked-map added cuts m in
       let l : length edgesIn ≡ e = length-rows (edgeAt en ef) 0 e in
       let n : length (take e added) ≡ e = rw q (length-added edgesIn (length edgesIn) ∙ l) in
-      record {
-        wires-le = A .wires .lengths;
-        few = A .wires .few;
-        lent = A .wires .uses;
-        edges = λ k h. rw n (A .wires .edges k h);
-        small = λ k. rw q (added-small edgesIn (length edgesIn) 2147483648 k (omega arith) (omega (arith, l, A .edges .below)));
-        room = omega (arith, A .wires .few);
-        places = omega (arith, A .wires .below);
-      }
+      replaceable-by A (take e added) out ol n (λ k. rw q (added-small edgesIn (length edgesIn) 2147483648 k (omega arith) (omega (arith, l, A .edges .below)))) ho hl
 
   -- what is worked out before anything lent is written: how many edges are cut, and the mended wires
   pub record Worked (cuts n : ℕ) (out ol : List ℕ) : Type 0 where
@@ -221,17 +257,6 @@ module _ (vn : List ℕ) (vf : List Float) (en : List ℕ) (ef : List Float) (us
           kinds = W .accepted .edges .kinds;
         }
 
-    -- the vertices lent, stored again, are themselves
-    vertices-stand : (storeFrom vertexNumbers vn 0 (rows (vertexAt vn vf) 0 v ++ newVertices edgesIn) ≡ storeFrom vertexNumbers vn v (newVertices edgesIn))
-        × (storeFrom vertexFloats vf 0 (rows (vertexAt vn vf) 0 v ++ newVertices edgesIn) ≡ storeFrom vertexFloats vf v (newVertices edgesIn))
-    vertices-stand =
-        let vs = rows (vertexAt vn vf) 0 v in
-        let l : 0 + length vs ≡ v = omega (arith, length-rows (vertexAt vn vf) 0 v) in
-        let p : storeFrom vertexNumbers vn 0 vs ≡ vn
-        = store-same vertexNumbers vn (vertexAt vn vf) 0 v (λ j lo hi. vertex-numbers-stand vn vf j (W .accepted .vertices .kinds j (omega arith)) (W .accepted .vertices .curve-kinds j (omega arith))) in
-        let q : storeFrom vertexFloats vf 0 vs ≡ vf = store-same vertexFloats vf (vertexAt vn vf) 0 v (λ j lo hi. vertex-floats-stand vn vf j) in
-        (store-append vertexNumbers vs (newVertices edgesIn) vn 0 ∙ rw (l, p), store-append vertexFloats vs (newVertices edgesIn) vf 0 ∙ rw (l, q))
-
     pub outcome-done : (vn′ : List ℕ) (vf′ : List Float) (en′ : List ℕ) (ef′ : List Float) (us′ ls′ : List ℕ) → Roomy
         → inputCause (lentOf vn vf en ef us ls v e w) ≡ 0 → Added v e vn vf en ef vn′ vf′ en′ ef′
         → us′ ≡ take n out ++ drop n us → ls′ ≡ take w ol ++ drop w ls
@@ -239,10 +264,7 @@ module _ (vn : List ℕ) (vf : List Float) (en : List ℕ) (ef : List Float) (us
     unfolding outcomeOf storeShell splitClosedEdges load
     outcome-done vn′ vf′ en′ ef′ us′ ls′ R z T eu el =
         let lv : length (rows (vertexAt vn vf) 0 v) ≡ v = length-rows (vertexAt vn vf) 0 v in
-        let lw : length wiresOut ≡ w = length-replaced (addedTo (length edgesIn) edgesIn) us (take w ls) ∙ length-take-le w ls (W .accepted .wires .lengths) in
-        let ll : length (lengthsOf wiresOut) ≡ w = length-lengths wiresOut ∙ lw in
-        let u : us′ ≡ usesOf wiresOut ++ drop (length (usesOf wiresOut)) us = rw (← kn) (eu ∙ rw (W .mended .uses)) in
-        let t : take w ol ≡ lengthsOf wiresOut = rw lw at (W .mended .lengths) in
-        let h : ls′ ≡ lengthsOf wiresOut ++ drop (length (lengthsOf wiresOut)) ls = rw ll (el ∙ rw t) in
-        let s = vertices-stand in
+        let u = uses-over wiresOut n out ol us′ (W .mended) eu in
+        let h = lengths-over (addedTo (length edgesIn) edgesIn) n out ol ls′ (W .accepted) (W .mended) el in
+        let s = vertices-stand (W .accepted) (newVertices edgesIn) in
         rw (way-done _ _ _ z (room-is ∙ rw (R .vertices, R .edges, R .uses)), counts, lv, s .0, s .1, T .vertex-numbers, T .vertex-floats, T .edge-numbers, T .edge-floats, u, h)

@@ -41,9 +41,13 @@ abbrev pub roomOr : Bool → Slices → Shell → Outcome
 roomOr true s r = record { said = result (countsOf r); slices = storeShell s r }
 roomOr false s r = record { said = refused 6; slices = s }
 
-abbrev pub resultOr : ℕ → Slices → Shell → Outcome
-resultOr zero s r = roomOr (hasRoom s (countsOf r)) s r
-resultOr (suc n) s r = record { said = refused (suc n); slices = s }
+abbrev pub resultOf : Slices → Shell → Outcome
+resultOf s r = roomOr (hasRoom s (countsOf r)) s r
+
+-- a cause, by its number, ahead of what a call would leave without one; 0 is no cause
+abbrev pub causeOr : ℕ → Slices → Outcome → Outcome
+causeOr zero s o = o
+causeOr (suc n) s o = record { said = refused (suc n); slices = s }
 
 unfoldable pub outcomeOf : Lent → Outcome
-outcomeOf l = resultOr (inputCause l) (l .slices) (splitClosedEdges (load l))
+outcomeOf l = causeOr (inputCause l) (l .slices) (resultOf (l .slices) (splitClosedEdges (load l)))

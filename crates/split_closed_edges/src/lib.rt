@@ -339,7 +339,7 @@ pub fn replace_wires(
 // ---- the call
 
 // Causes 1 to 5, over all that is lent.
-fn input_cause(
+pub fn input_cause(
     vertex_numbers: &[u32],
     vertex_floats: &[f64],
     edge_numbers: &[u32],
@@ -359,7 +359,7 @@ fn input_cause(
 }
 
 // The new counts where there is room for the result, else 6.
-fn answer(room: bool, vertices: usize, edges: usize, uses: usize) -> Split
+pub fn answer(room: bool, vertices: usize, edges: usize, uses: usize) -> Split
     ensures { λ r. ⌜ r ≡ pick room (Split.Done vertices edges uses) (Split.Refused Refusal.NoRoom) ⌝ }
 {
     if room {

@@ -1,0 +1,2 @@
+-- The laws of one cut.
+pub mod Outcome

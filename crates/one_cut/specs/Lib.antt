@@ -1,0 +1,4 @@
+-- The definitions that the contract of one cut cites, with worked examples.
+pub mod Cut
+pub mod Contract
+pub mod Examples
