@@ -78,7 +78,7 @@ pub length-added : (n i m : ℕ) → length (addedAt n i m) ≡ n
 unfolding addedAt
 length-added n i m = length-set (replicate n 0) i m ∙ length-replicate n 0
 
-all-alike : {A : Type 0} (a : A) (n k : ℕ) → getD (replicate n a) k a ≡ a
+pub all-alike : {A : Type 0} (a : A) (n k : ℕ) → getD (replicate n a) k a ≡ a
 all-alike a zero k = refl
 all-alike a (suc n) zero = refl
 all-alike a (suc n) (suc k) = all-alike a n k

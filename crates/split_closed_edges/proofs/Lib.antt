@@ -4,3 +4,4 @@ pub mod Adding
 pub mod Marking
 pub mod Wiring
 pub mod Outcome
+pub mod Keeping

@@ -1,2 +1,3 @@
--- The laws of turned wires.
+-- The laws of turned wires and of wires whose uses are replaced.
 pub mod Turns
+pub mod Replaced

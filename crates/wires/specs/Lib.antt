@@ -1,2 +1,3 @@
--- The definitions that the contract of `rotate_left` cites.
+-- The definitions of turned, connected and closed wires.
 pub mod Turn
+pub mod Connected
