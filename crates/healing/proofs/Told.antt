@@ -11,10 +11,10 @@ use Rattle.compress.specs.declared.Refusal.{Refusal}
 use Rattle.compress.specs.declared.Refusal.the-variants.{Malformed, VertexNumber, EdgeNumber, NotSized, OutOfRange, NoRoom, PendingVertex, PastEnd, OddDivisor, RepeatedVertex, DeadEnd, TooManyUses, EmptyList, SeveralCuts, EmptyOpenWire}
 use Rattle.compress.specs.Refusals.{refusalNumber}
 use Rattle.compress.specs.Said.{Said, result, none, refused}
-use Rattle.compress.specs.Shell.{Counts, Lent}
-use Rattle.split_closed_edges.specs.Contract.{Outcome, outcomeOf}
+use Rattle.compress.specs.Shell.{Counts}
+use Rattle.split_closed_edges.specs.Contract.{Outcome}
 use Rattle.nearest.specs.Kinds.{SortOutcome}
-use Rattle.healing.specs.Host.{codeOf, placesAfter, Told, HostSplit, HostSort}
+use Rattle.healing.specs.Host.{codeOf, placesAfter, Told, HostShell, HostSort}
 
 number-small : (r : Refusal) → refusalNumber r ≤ 15
 number-small Malformed = omega arith
@@ -61,8 +61,8 @@ module _ {A B : Type 0} (f : B → Said A) {a b : B} {s : Said A} {before : A} (
       record { code = code-kept k z y ∙ t .code; places = t .places }
 
 -- what is told of the answer, with what the lent slices hold, where x is how the call leaves them
-pub split-told : {l : Lent} {x : Outcome} {before after : Counts} {r : ℤ} → x ≡ outcomeOf l → Told (x .said) before after r → HostSplit l before after (x .slices) r
-split-told q t = record { told = rw (← q) t; lent = ap (λ (o : Outcome). o .slices) q }
+pub shell-told : {x o : Outcome} {before after : Counts} {r : ℤ} → x ≡ o → Told (x .said) before after r → HostShell o before after (x .slices) r
+shell-told q t = record { told = rw (← q) t; lent = ap (λ (o : Outcome). o .slices) q }
 
 pub sort-told : {x o : SortOutcome} {before after : ℕ} {r : ℤ} → x ≡ o → Told (x .said) before after r → HostSort o before after (x .opens) (x .closed) r
 sort-told q t = rw (← q) (record { told = t; opens = refl; closed = refl })

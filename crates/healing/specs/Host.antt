@@ -9,8 +9,8 @@ use Rattle.compress.specs.declared.Uv.{Uv}
 use Rattle.compress.specs.Records.{pick}
 use Rattle.compress.specs.Refusals.{refusalNumber}
 use Rattle.compress.specs.Said.{Said, result, none, refused, onResult}
-use Rattle.compress.specs.Shell.{Slices, Counts, Lent}
-use Rattle.split_closed_edges.specs.Contract.{outcomeOf}
+use Rattle.compress.specs.Shell.{Slices, Counts}
+use Rattle.split_closed_edges.specs.Contract.{Outcome}
 use Rattle.nearest.specs.declared.Period.{Period}
 use Rattle.nearest.specs.declared.Period.the-variants.{Absent, Every}
 use Rattle.nearest.specs.declared.BoundaryType.{BoundaryType}
@@ -38,10 +38,10 @@ pub record Told {A : Type 0} (s : Said A) (before after : A) (r : ℤ) : Type 0 
   pub code : r ≡ codeOf s
   pub places : after ≡ placesAfter s before
 
--- ---- the closed-edge pass, for a host
-pub record HostSplit (l : Lent) (before after : Counts) (slices : Slices) (r : ℤ) : Type 0 where
-  pub told : Told (outcomeOf l .said) before after r
-  pub lent : slices ≡ outcomeOf l .slices
+-- ---- a call that changes a shell, for a host: the closed-edge pass, or one cut
+pub record HostShell (o : Outcome) (before after : Counts) (slices : Slices) (r : ℤ) : Type 0 where
+  pub told : Told (o .said) before after r
+  pub lent : slices ≡ o .slices
 
 -- ---- periods: kind 0 is absent, kind 1 is the number; 1, "a kind field holds no known kind"
 unfoldable pub periodSaid : ℕ → Float → Said Period

@@ -1,11 +1,12 @@
 // The calls for hosts in C and Rust: numbers and slices, and an i32 for the answer. Here the closed-edge pass; the modules have the others.
 mod answers;
+mod cuts;
 mod kinds;
 mod periods;
 mod search;
 
-ghost use Rattle.split_closed_edges.specs.Contract.{lentOf};
-ghost use Rattle.healing.specs.Host.{HostSplit};
+ghost use Rattle.split_closed_edges.specs.Contract.{lentOf, outcomeOf};
+ghost use Rattle.healing.specs.Host.{HostShell};
 use split_closed_edges::Split;
 
 // Every closed edge is cut and every wire mended, in place. 0: done, and the three places hold the new counts of vertices, edges and uses.
@@ -25,7 +26,7 @@ pub extern "C" fn kaugrenna_split_closed_edges(
     edges_out: &mut usize,
     uses_out: &mut usize,
 ) -> i32
-    ensures { λ r. ⌜ HostSplit (lentOf (now («vertex_numbers» .entry)) (now («vertex_floats» .entry)) (now («edge_numbers» .entry)) (now («edge_floats» .entry)) (now (uses .entry)) (now (lengths .entry)) vertices edges wires) (record { vertices = now («vertices_out» .entry); edges = now («edges_out» .entry); uses = now («uses_out» .entry) }) (record { vertices = now («vertices_out» .exit); edges = now («edges_out» .exit); uses = now («uses_out» .exit) }) (record { vn = now («vertex_numbers» .exit); vf = now («vertex_floats» .exit); en = now («edge_numbers» .exit); ef = now («edge_floats» .exit); us = now (uses .exit); ls = now (lengths .exit) }) r ⌝ }
+    ensures { λ r. ⌜ HostShell (outcomeOf (lentOf (now («vertex_numbers» .entry)) (now («vertex_floats» .entry)) (now («edge_numbers» .entry)) (now («edge_floats» .entry)) (now (uses .entry)) (now (lengths .entry)) vertices edges wires)) (record { vertices = now («vertices_out» .entry); edges = now («edges_out» .entry); uses = now («uses_out» .entry) }) (record { vertices = now («vertices_out» .exit); edges = now («edges_out» .exit); uses = now («uses_out» .exit) }) (record { vn = now («vertex_numbers» .exit); vf = now («vertex_floats» .exit); en = now («edge_numbers» .exit); ef = now («edge_floats» .exit); us = now (uses .exit); ls = now (lengths .exit) }) r ⌝ }
 {
     let answer = split_closed_edges::split_closed_edges(
         vertex_numbers,

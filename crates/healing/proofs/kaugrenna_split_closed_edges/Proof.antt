@@ -2,7 +2,7 @@
 use mathlib.Core.Path.{refl}
 use borrow.Author.Needs.{needs}
 use Rattle.split_closed_edges.specs.Contract.{saidOf}
-use Rattle.healing.proofs.Told.{told-result, told-refused, split-told}
+use Rattle.healing.proofs.Told.{told-result, told-refused, shell-told}
 use Rattle.healing.proofs.kaugrenna_split_closed_edges.Statement.{statement}
 use Rattle.healing.proofs.kaugrenna_split_closed_edges.Tie as tie
 
@@ -37,7 +37,7 @@ same-length-6 : tie.Need-same-length-6
 same-length-6 c = search needs
 
 returns : tie.Need-returns
-returns c = split-told (c .before .before .before .before .before .before .before .before .before .before .before .before .before .before .before .split-closed-edges .ensures) (told-result saidOf refl (c .before .answer .given .1) refl)
+returns c = shell-told (c .before .before .before .before .before .before .before .before .before .before .before .before .before .before .before .split-closed-edges .ensures) (told-result saidOf refl (c .before .answer .given .1) refl)
 
 same-length-7 : tie.Need-same-length-7
 same-length-7 c = search needs
@@ -58,7 +58,7 @@ same-length-12 : tie.Need-same-length-12
 same-length-12 c = search needs
 
 returns-2 : tie.Need-returns-2
-returns-2 c = split-told (c .before .before .before .before .before .before .before .before .before .before .before .before .before .before .before .before .split-closed-edges .ensures) (told-refused saidOf refl (c .before .before .answer2 .given .1) (c .before .before .answer2 .given .0 .0) (c .refusal-code .ensures) refl)
+returns-2 c = shell-told (c .before .before .before .before .before .before .before .before .before .before .before .before .before .before .before .before .split-closed-edges .ensures) (told-refused saidOf refl (c .before .before .answer2 .given .1) (c .before .before .answer2 .given .0 .0) (c .refusal-code .ensures) refl)
 
 pub kaugrenna-split-closed-edges-spec : {M : Type 1} → statement M
 kaugrenna-split-closed-edges-spec =
