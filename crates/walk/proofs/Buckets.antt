@@ -11,11 +11,8 @@ use lib.ListN.{length, getD, take, drop}
 use lib.Dec.{eqb}
 use borrow.Author.Tests.{eqb-true, eq-eqb, ne-eqb}
 use Rattle.walk.specs.Walk.{Move, finish, refuse, fresh, along, State, put, filter, cut, del, sits, at, least, begin, choose, turn, move}
+pub use Rattle.walk.specs.Table.{without}
 use Rattle.walk.proofs.Counts.{least-has}
-
--- A list without its member at n.
-abbrev pub without : List ℕ → ℕ → List ℕ
-without l n = take n l ++ drop (suc n) l
 
 del-same-cons : (p : ℕ → Bool) (x : ℕ) (l : List ℕ) → ((n : ℕ) → filter p (del p n l) ≡ without (filter p l) n)
     → (t : Bool) → p x ≡ t → (n : ℕ) → filter p (cut t n x l (λ k. del p k l)) ≡ without (put t x (filter p l)) n
@@ -23,7 +20,7 @@ del-same-cons p x l ih true e zero = refl
 del-same-cons p x l ih true e (suc n) = ap (λ (t : Bool). put t x (filter p (del p n l))) e ∙ ap {B = List ℕ} (x ∷_) (ih n)
 del-same-cons p x l ih false e n = ap (λ (t : Bool). put t x (filter p (del p n l))) e ∙ ih n
 
-del-nil : (n : ℕ) → _≡_ {A = List ℕ} [] (without [] n)
+pub del-nil : (n : ℕ) → _≡_ {A = List ℕ} [] (without [] n)
 del-nil zero = refl
 del-nil (suc n) = refl
 

@@ -1,3 +1,4 @@
 pub mod Counts
 pub mod Theorem
 pub mod Buckets
+pub mod Same
