@@ -2,3 +2,4 @@ pub mod Counts
 pub mod Theorem
 pub mod Buckets
 pub mod Same
+pub mod Balance

@@ -17,13 +17,13 @@ use Rattle.walk.specs.Claim.{Wire, out, into, Walks}
 use Rattle.walk.proofs.Counts.{bit, count-cons, count-append, count-join, took, passes, count-all, snoc-all, least-has}
 
 -- Balance with one wire under way, from s to t: as if one more use went from s, and one more came to t.
-abbrev Even : (ℕ → ℕ) → (ℕ → ℕ) → List ℕ → Type 0
+abbrev pub Even : (ℕ → ℕ) → (ℕ → ℕ) → List ℕ → Type 0
 Even front back l = (v : ℕ) → out front v l ≡ into back v l
 
 abbrev Bal : (ℕ → ℕ) → (ℕ → ℕ) → ℕ → ℕ → List ℕ → Type 0
 Bal front back s t l = (v : ℕ) → out front v l + bit (eqb s v) ≡ into back v l + bit (eqb t v)
 
-abbrev Small : (ℕ → ℕ) → List ℕ → Type 0
+abbrev pub Small : (ℕ → ℕ) → List ℕ → Type 0
 Small front l = (v : ℕ) → out front v l ≤ 2
 
 -- ---- what a move says: of the start s, the vertex t where the wire stands, the uses left l, and the number n of those at t
@@ -108,23 +108,24 @@ part-on front back s u x w p d e = record {
 
 -- ---- what comes of a walk: B, that it is balanced; S, that no vertex has more than two uses; T, how many uses there are that pass a test
 
-record Done (front back : ℕ → ℕ) (B : Type 0) (T : (ℕ → Bool) → ℕ) (ws : List (List ℕ)) : Type 0 where
-  even : B
-  same : (q : ℕ → Bool) → count q (join ws) ≡ T q
-  all : (i : ℕ) → i < length ws → Wire front back (getD ws i [])
+pub record Done (front back : ℕ → ℕ) (B : Type 0) (T : (ℕ → Bool) → ℕ) (ws : List (List ℕ)) : Type 0 where
+  pub even : B
+  pub same : (q : ℕ → Bool) → count q (join ws) ≡ T q
+  pub all : (i : ℕ) → i < length ws → Wire front back (getD ws i [])
 
-record Stop (B S : Type 0) (c : ℕ) : Type 0 where
-  code : (c ≡ 11) ⊎ (c ≡ 12)
-  why : B → S → ⊥
+pub record Stop (B S : Type 0) (c : ℕ) : Type 0 where
+  pub code : (c ≡ 11) ⊎ (c ≡ 12)
+  pub why : B → S → ⊥
+  pub alive : B → c ≢ 11
 
-abbrev Fate : (ℕ → ℕ) → (ℕ → ℕ) → Type 0 → Type 0 → ((ℕ → Bool) → ℕ) → Answer → Type 0
+abbrev pub Fate : (ℕ → ℕ) → (ℕ → ℕ) → Type 0 → Type 0 → ((ℕ → Bool) → ℕ) → Answer → Type 0
 Fate front back B S T (wires ws) = Done front back B T ws
 Fate front back B S T (refused c) = Stop B S c
 
 lift : (front back : ℕ → ℕ) {B S B′ S′ : Type 0} {T T′ : (ℕ → Bool) → ℕ} → (B → B′) → (B′ → B) → (S → S′) → ((q : ℕ → Bool) → T′ q ≡ T q)
     → (a : Answer) → Fate front back B′ S′ T′ a → Fate front back B S T a
 lift front back f g h e (wires ws) r = record { even = g (r .even); same = λ q. r .same q ∙ e q; all = r .all }
-lift front back f g h e (refused c) r = record { code = r .code; why = λ b s. r .why (f b) (h s) }
+lift front back f g h e (refused c) r = record { code = r .code; why = λ b s. r .why (f b) (h s); alive = λ b. r .alive (f b) }
 
 -- ---- taking the n-th use of v from l
 
@@ -217,9 +218,16 @@ module _ (front back : ℕ → ℕ) (marked : ℕ → Bool) where
   bal-even : (s t : ℕ) (l : List ℕ) → t ≡ s → Bal front back s t l → Even front back l
   bal-even s t l e b v = omega (arith, b v, ap (λ (k : ℕ). bit (eqb k v)) e)
 
-  -- the walk is not refused where it is balanced and small
+  -- A wire under way is at no dead end where all is balanced, and is not refused where also no vertex has more than two uses.
+  no-dead-end : (s t : ℕ) (l : List ℕ) → t ≢ s → Bal front back s t l → out front t l ≢ 0
+  no-dead-end s t l d b e = omega (arith, b t, ap bit (ne-eqb s t (λ g. d (sym g))), ap bit (eq-eqb t t refl))
+
+  not-eleven : (c s t : ℕ) (l : List ℕ) → t ≢ s → Why c (out front t l) → Bal front back s t l → c ≢ 11
+  not-eleven c s t l d (inl w) b e = no-dead-end s t l d b (w .1)
+  not-eleven c s t l d (inr w) b e = omega (arith, w .0)
+
   not-refused : (c s t : ℕ) (l : List ℕ) → t ≢ s → Why c (out front t l) → Bal front back s t l → Small front l → ⊥
-  not-refused c s t l d (inl w) b small = omega (arith, w .1, b t, ap bit (ne-eqb s t (λ e. d (sym e))), ap bit (eq-eqb t t refl))
+  not-refused c s t l d (inl w) b small = no-dead-end s t l d b (w .1)
   not-refused c s t l d (inr w) b small = omega (arith, w .1, small t)
 
   fresh-fate : (v : ℕ) (st : State) → back (st .last) ≡ st .start → 0 < out front v (st .rest) → (a : Answer)
@@ -254,6 +262,7 @@ module _ (front back : ℕ → ℕ) (marked : ℕ → Bool) where
   run-fate (suc k) (refuse c) st h w g = record {
     code = ⊎-elim (λ y. inl (y .0)) (λ y. inr (y .0)) (w .1);
     why = not-refused c (st .start) (back (st .last)) (st .rest) (w .0) (w .1);
+    alive = not-eleven c (st .start) (back (st .last)) (st .rest) (w .0) (w .1);
   }
   run-fate (suc k) (fresh v) st h w g =
       let next = begun front v (st .rest) (closed st) in
@@ -265,7 +274,7 @@ module _ (front back : ℕ → ℕ) (marked : ℕ → Bool) where
       gone-fate n st (w .1) (run front back marked k (move front back marked next) next) (run-fate k (move front back marked next) next
       (omega (arith, shorter front back (back (st .last)) n (st .rest) (w .1))) (says next) (gone-good n st (w .0) (w .1) g))
 
-  walk-fate : (us : List ℕ) → Fate front back (Even front back us) (Small front us) (λ q. count q us) (walk front back marked us)
+  pub walk-fate : (us : List ℕ) → Fate front back (Even front back us) (Small front us) (λ q. count q us) (walk front back marked us)
   unfolding walk
   walk-fate [] = record { even = λ v. refl; same = λ q. refl; all = λ i h. absurd (not-suc-le-zero h) }
   walk-fate (x ∷ l) =
