@@ -3,3 +3,4 @@ pub mod Theorem
 pub mod Buckets
 pub mod Same
 pub mod Balance
+pub mod Tabled
