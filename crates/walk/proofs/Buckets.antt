@@ -1,16 +1,14 @@
--- What code that holds the list of each vertex, and not the list of all uses left, needs of the walk's definition.
--- Assumes nothing.
-use Prim.Native.Nat.{ℕ, zero, suc, _+_, _≤_, _<_, min}
+-- The lists of the vertices, as the walk changes them, and the walk's moves by those lists. Assumes nothing.
+use Prim.Native.Nat.{ℕ, zero, suc, _<_}
 use native.Mathlib.Omega.{arith}
 use native.Mathlib.Nat.{not-suc-le-zero}
 use mathlib.Core.Path.{_≡_, refl, ap, sym, subst, _∙_}
 use mathlib.Core.Logic.{_≢_}
-use mathlib.Core.Bool.{Bool, true, false, true≢false}
+use mathlib.Core.Bool.{Bool, true, false}
 use mathlib.Core.List.{List, [], _∷_, _++_}
-use lib.ListN.{length, getD, take, drop}
-use lib.Dec.{eqb}
+use lib.ListN.{length}
 use borrow.Author.Tests.{eqb-true, eq-eqb, ne-eqb}
-use Rattle.walk.specs.Walk.{Move, finish, refuse, fresh, along, State, put, filter, cut, del, sits, at, least, begin, choose, turn, move}
+use Rattle.walk.specs.Walk.{finish, fresh, State, put, filter, cut, del, sits, at, least, begin, choose, turn, move}
 pub use Rattle.walk.specs.Table.{without}
 use Rattle.walk.proofs.Counts.{least-has}
 

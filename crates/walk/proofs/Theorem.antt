@@ -1,8 +1,7 @@
--- What is claimed of the walk holds.
--- Assumes nothing.
-use Prim.Native.Nat.{ℕ, zero, suc, _+_, _-_, _≤_, _<_, suc-le-suc}
+-- What is claimed of the walk holds. Assumes nothing.
+use Prim.Native.Nat.{ℕ, zero, suc, _+_, _-_, _≤_, _<_}
 use native.Mathlib.Omega.{arith}
-use native.Mathlib.Nat.{not-suc-le-zero, le-of-suc-le-suc, eq-or-lt-of-le}
+use native.Mathlib.Nat.{not-suc-le-zero, eq-or-lt-of-le}
 use mathlib.Core.Path.{_≡_, refl, ap, sym, subst, _∙_}
 use mathlib.Core.Logic.{_≢_, _⊎_, inl, inr, ⊎-elim}
 use mathlib.Core.Bool.{Bool, true, false}
@@ -16,18 +15,21 @@ use Rattle.walk.specs.Walk.{count, del, join, side, sits, at, least, beg
 use Rattle.walk.specs.Claim.{Wire, out, into, Walks}
 use Rattle.walk.proofs.Counts.{bit, count-cons, count-append, count-join, took, passes, count-all, snoc-all, least-has}
 
--- Balance with one wire under way, from s to t: as if one more use went from s, and one more came to t.
+-- Every vertex is balanced.
 abbrev pub Even : (ℕ → ℕ) → (ℕ → ℕ) → List ℕ → Type 0
 Even front back l = (v : ℕ) → out front v l ≡ into back v l
 
+-- Balance with one wire under way, from s to t: as if one more use went from s, and one more came to t.
 abbrev Bal : (ℕ → ℕ) → (ℕ → ℕ) → ℕ → ℕ → List ℕ → Type 0
 Bal front back s t l = (v : ℕ) → out front v l + bit (eqb s v) ≡ into back v l + bit (eqb t v)
 
+-- No vertex has more than two uses.
 abbrev pub Small : (ℕ → ℕ) → List ℕ → Type 0
 Small front l = (v : ℕ) → out front v l ≤ 2
 
 -- ---- what a move says: of the start s, the vertex t where the wire stands, the uses left l, and the number n of those at t
 
+-- why the walk is refused with the number c
 abbrev Why : ℕ → ℕ → Type 0
 Why c n = ((c ≡ 11) × (n ≡ 0)) ⊎ ((c ≡ 12) × (3 ≤ n))
 
@@ -106,7 +108,7 @@ part-on front back s u x w p d e = record {
       (λ (g : suc i < length w). p .early i g (sym (ap back (old w x i (omega arith))) ∙ q)) (which w x i h);
 }
 
--- ---- what comes of a walk: B, that it is balanced; S, that no vertex has more than two uses; T, how many uses there are that pass a test
+-- ---- what is known of an answer: B, that it is balanced; S, that no vertex has more than two uses; T, how many uses there are that pass a test
 
 pub record Done (front back : ℕ → ℕ) (B : Type 0) (T : (ℕ → Bool) → ℕ) (ws : List (List ℕ)) : Type 0 where
   pub even : B
@@ -116,16 +118,16 @@ pub record Done (front back : ℕ → ℕ) (B : Type 0) (T : (ℕ → Bool) → 
 pub record Stop (B S : Type 0) (c : ℕ) : Type 0 where
   pub code : (c ≡ 11) ⊎ (c ≡ 12)
   pub why : B → S → ⊥
-  pub alive : B → c ≢ 11
+  pub not-eleven : B → c ≢ 11
 
-abbrev pub Fate : (ℕ → ℕ) → (ℕ → ℕ) → Type 0 → Type 0 → ((ℕ → Bool) → ℕ) → Answer → Type 0
-Fate front back B S T (wires ws) = Done front back B T ws
-Fate front back B S T (refused c) = Stop B S c
+abbrev pub Known : (ℕ → ℕ) → (ℕ → ℕ) → Type 0 → Type 0 → ((ℕ → Bool) → ℕ) → Answer → Type 0
+Known front back B S T (wires ws) = Done front back B T ws
+Known front back B S T (refused c) = Stop B S c
 
 lift : (front back : ℕ → ℕ) {B S B′ S′ : Type 0} {T T′ : (ℕ → Bool) → ℕ} → (B → B′) → (B′ → B) → (S → S′) → ((q : ℕ → Bool) → T′ q ≡ T q)
-    → (a : Answer) → Fate front back B′ S′ T′ a → Fate front back B S T a
+    → (a : Answer) → Known front back B′ S′ T′ a → Known front back B S T a
 lift front back f g h e (wires ws) r = record { even = g (r .even); same = λ q. r .same q ∙ e q; all = r .all }
-lift front back f g h e (refused c) r = record { code = r .code; why = λ b s. r .why (f b) (h s); alive = λ b. r .alive (f b) }
+lift front back f g h e (refused c) r = record { code = r .code; why = λ b s. r .why (f b) (h s); not-eleven = λ b. r .not-eleven (f b) }
 
 -- ---- taking the n-th use of v from l
 
@@ -174,8 +176,8 @@ module _ (front back : ℕ → ℕ) (marked : ℕ → Bool) where
   abbrev Total : State → (ℕ → Bool) → ℕ
   Total st q = count q (join (st .done)) + (count q (st .wire) + count q (st .rest))
 
-  abbrev Fated : State → Answer → Type 0
-  Fated st a = Fate front back (Bal front back (st .start) (back (st .last)) (st .rest)) (Small front (st .rest)) (Total st) a
+  abbrev KnownAt : State → Answer → Type 0
+  KnownAt st a = Known front back (Bal front back (st .start) (back (st .last)) (st .rest)) (Small front (st .rest)) (Total st) a
 
   abbrev Says : State → Move → Type 0
   Says st m = What front (st .start) (back (st .last)) (st .rest) (out front (back (st .last)) (st .rest)) m
@@ -201,9 +203,9 @@ module _ (front back : ℕ → ℕ) (marked : ℕ → Bool) where
   begun-good : (v : ℕ) (l : List ℕ) (ws : List (List ℕ)) → 0 < out front v l → Made ws → Good (begun front v l ws)
   begun-good v l ws h m = record { part = part-one front back v _ (front-is front back v _ l (final-index v l h)); made = m }
 
-  begun-fate : (v : ℕ) (l : List ℕ) (ws : List (List ℕ)) → 0 < out front v l → (a : Answer) → Fated (begun front v l ws) a
-      → Fate front back (Even front back l) (Small front l) (λ q. count q (join ws) + count q l) a
-  begun-fate v l ws h a r =
+  begun-known : (v : ℕ) (l : List ℕ) (ws : List (List ℕ)) → 0 < out front v l → (a : Answer) → KnownAt (begun front v l ws) a
+      → Known front back (Even front back l) (Small front l) (λ q. count q (join ws) + count q l) a
+  begun-known v l ws h a r =
       let k = final-index v l h in
       lift front back (anew front back v _ l k) (anew⁻¹ front back v _ l k) (still-small front back v _ l k)
       (λ q. omega (arith, one-more front back v _ l k [] q)) a r
@@ -222,19 +224,19 @@ module _ (front back : ℕ → ℕ) (marked : ℕ → Bool) where
   no-dead-end : (s t : ℕ) (l : List ℕ) → t ≢ s → Bal front back s t l → out front t l ≢ 0
   no-dead-end s t l d b e = omega (arith, b t, ap bit (ne-eqb s t (λ g. d (sym g))), ap bit (eq-eqb t t refl))
 
-  not-eleven : (c s t : ℕ) (l : List ℕ) → t ≢ s → Why c (out front t l) → Bal front back s t l → c ≢ 11
-  not-eleven c s t l d (inl w) b e = no-dead-end s t l d b (w .1)
-  not-eleven c s t l d (inr w) b e = omega (arith, w .0)
+  not-dead : (c s t : ℕ) (l : List ℕ) → t ≢ s → Why c (out front t l) → Bal front back s t l → c ≢ 11
+  not-dead c s t l d (inl w) b e = no-dead-end s t l d b (w .1)
+  not-dead c s t l d (inr w) b e = omega (arith, w .0)
 
   not-refused : (c s t : ℕ) (l : List ℕ) → t ≢ s → Why c (out front t l) → Bal front back s t l → Small front l → ⊥
   not-refused c s t l d (inl w) b small = no-dead-end s t l d b (w .1)
   not-refused c s t l d (inr w) b small = omega (arith, w .1, small t)
 
-  fresh-fate : (v : ℕ) (st : State) → back (st .last) ≡ st .start → 0 < out front v (st .rest) → (a : Answer)
-      → Fated (begun front v (st .rest) (closed st)) a → Fated st a
-  fresh-fate v st e h a r =
+  fresh-known : (v : ℕ) (st : State) → back (st .last) ≡ st .start → 0 < out front v (st .rest) → (a : Answer)
+      → KnownAt (begun front v (st .rest) (closed st)) a → KnownAt st a
+  fresh-known v st e h a r =
       lift front back (bal-even (st .start) (back (st .last)) (st .rest) e) (even-bal (st .start) (back (st .last)) (st .rest) e) (λ s. s)
-      (λ q. omega (arith, count-join q (st .done) (st .wire))) a (begun-fate v (st .rest) (closed st) h a r)
+      (λ q. omega (arith, count-join q (st .done) (st .wire))) a (begun-known v (st .rest) (closed st) h a r)
 
   -- a wire that goes on
   gone-good : (n : ℕ) (st : State) → back (st .last) ≢ st .start → n < out front (back (st .last)) (st .rest) → Good st
@@ -244,65 +246,67 @@ module _ (front back : ℕ → ℕ) (marked : ℕ → Bool) where
     made = g .made;
   }
 
-  gone-fate : (n : ℕ) (st : State) → n < out front (back (st .last)) (st .rest) → (a : Answer)
-      → Fated (gone front back marked n st) a → Fated st a
-  gone-fate n st h a r =
+  gone-known : (n : ℕ) (st : State) → n < out front (back (st .last)) (st .rest) → (a : Answer)
+      → KnownAt (gone front back marked n st) a → KnownAt st a
+  gone-known n st h a r =
       lift front back (on front back (back (st .last)) n (st .rest) h (st .start)) (on⁻¹ front back (back (st .last)) n (st .rest) h (st .start))
       (still-small front back (back (st .last)) n (st .rest) h)
       (λ q. omega (arith, one-more front back (back (st .last)) n (st .rest) h (st .wire) q)) a r
 
-  run-fate : (k : ℕ) (m : Move) (st : State) → length (st .rest) < k → Says st m → Good st → Fated st (run front back marked k m st)
+  run-known : (k : ℕ) (m : Move) (st : State) → length (st .rest) < k → Says st m → Good st → KnownAt st (run front back marked k m st)
   unfolding run
-  run-fate zero m st h w g = absurd (not-suc-le-zero h)
-  run-fate (suc k) finish st h w g = record {
+  run-known zero m st h w g = absurd (not-suc-le-zero h)
+  run-known (suc k) finish st h w g = record {
     even = even-bal (st .start) (back (st .last)) (st .rest) (w .0) (λ v. omega (arith, ap (count (sits front v)) (w .1), ap (count (sits back v)) (w .1)));
     same = λ q. omega (arith, count-join q (st .done) (st .wire), ap (count q) (w .1));
     all = made-more st g (w .0);
   }
-  run-fate (suc k) (refuse c) st h w g = record {
+  run-known (suc k) (refuse c) st h w g = record {
     code = ⊎-elim (λ y. inl (y .0)) (λ y. inr (y .0)) (w .1);
     why = not-refused c (st .start) (back (st .last)) (st .rest) (w .0) (w .1);
-    alive = not-eleven c (st .start) (back (st .last)) (st .rest) (w .0) (w .1);
+    not-eleven = not-dead c (st .start) (back (st .last)) (st .rest) (w .0) (w .1);
   }
-  run-fate (suc k) (fresh v) st h w g =
+  run-known (suc k) (fresh v) st h w g =
       let next = begun front v (st .rest) (closed st) in
-      fresh-fate v st (w .0) (w .1) (run front back marked k (move front back marked next) next) (run-fate k (move front back marked next) next
+      fresh-known v st (w .0) (w .1) (run front back marked k (move front back marked next) next) (run-known k (move front back marked next) next
       (omega (arith, shorter front back v _ (st .rest) (final-index v (st .rest) (w .1)))) (says next)
       (begun-good v (st .rest) (closed st) (w .1) (made-more st g (w .0))))
-  run-fate (suc k) (along n) st h w g =
+  run-known (suc k) (along n) st h w g =
       let next = gone front back marked n st in
-      gone-fate n st (w .1) (run front back marked k (move front back marked next) next) (run-fate k (move front back marked next) next
+      gone-known n st (w .1) (run front back marked k (move front back marked next) next) (run-known k (move front back marked next) next
       (omega (arith, shorter front back (back (st .last)) n (st .rest) (w .1))) (says next) (gone-good n st (w .0) (w .1) g))
 
-  pub walk-fate : (us : List ℕ) → Fate front back (Even front back us) (Small front us) (λ q. count q us) (walk front back marked us)
+  pub walk-known : (us : List ℕ) → Known front back (Even front back us) (Small front us) (λ q. count q us) (walk front back marked us)
   unfolding walk
-  walk-fate [] = record { even = λ v. refl; same = λ q. refl; all = λ i h. absurd (not-suc-le-zero h) }
-  walk-fate (x ∷ l) =
+  walk-known [] = record { even = λ v. refl; same = λ q. refl; all = λ i h. absurd (not-suc-le-zero h) }
+  walk-known (x ∷ l) =
       let us : List ℕ = x ∷ l in
       let v = least front x l in
       let first = begun front v us [] in
       let h = least-has front x l in
       let a = run front back marked (length us) (move front back marked first) first in
-      lift front back (λ b. b) (λ b. b) (λ s. s) (λ q. omega arith) a (begun-fate v us [] h a (run-fate (length us) (move front back marked first)
+      lift front back (λ b. b) (λ b. b) (λ s. s) (λ q. omega arith) a (begun-known v us [] h a (run-known (length us) (move front back marked first)
       first (omega (arith, shorter front back v _ us (final-index v us h))) (says first) (begun-good v us [] h (λ i b. absurd (not-suc-le-zero b)))))
+
+-- ---- the theorem
 
 pub theorem : (front back : ℕ → ℕ) (marked : ℕ → Bool) (us : List ℕ) → Walks front back marked us
 theorem front back marked us = record {
-  succeeds = λ even small. ok (walk front back marked us) refl (walk-fate front back marked us) even small;
-  refuses = λ v d. bad (walk front back marked us) refl (walk-fate front back marked us) v d;
+  succeeds = λ even small. ok (walk front back marked us) refl (walk-known front back marked us) even small;
+  refuses = λ v d. bad (walk front back marked us) refl (walk-known front back marked us) v d;
   each = λ ws e u. (done ws e) .same (eqb u);
   wire = λ ws e. (done ws e) .all;
 }
   where
-    ok : (a : Answer) → walk front back marked us ≡ a → Fate front back (Even front back us) (Small front us) (λ q. count q us) a
+    ok : (a : Answer) → walk front back marked us ≡ a → Known front back (Even front back us) (Small front us) (λ q. count q us) a
         → Even front back us → Small front us → (ws : List (List ℕ)) × (walk front back marked us ≡ wires ws)
     ok (wires ws) e r even small = (ws, e)
     ok (refused c) e r even small = absurd (r .why even small)
 
-    bad : (a : Answer) → walk front back marked us ≡ a → Fate front back (Even front back us) (Small front us) (λ q. count q us) a
+    bad : (a : Answer) → walk front back marked us ≡ a → Known front back (Even front back us) (Small front us) (λ q. count q us) a
         → (v : ℕ) → out front v us ≢ into back v us → (walk front back marked us ≡ refused 11) ⊎ (walk front back marked us ≡ refused 12)
     bad (wires ws) e r v d = absurd (d (r .even v))
     bad (refused c) e r v d = ⊎-elim (λ (y : c ≡ 11). inl (e ∙ ap refused y)) (λ (y : c ≡ 12). inr (e ∙ ap refused y)) (r .code)
 
     done : (ws : List (List ℕ)) → walk front back marked us ≡ wires ws → Done front back (Even front back us) (λ q. count q us) ws
-    done ws e = subst (λ (a : Answer). Fate front back (Even front back us) (Small front us) (λ q. count q us) a) e (walk-fate front back marked us)
+    done ws e = subst (λ (a : Answer). Known front back (Even front back us) (Small front us) (λ q. count q us) a) e (walk-known front back marked us)

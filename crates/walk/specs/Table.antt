@@ -1,5 +1,5 @@
 -- The walk of a split as document 01 says it, over a table that holds the list of each vertex. Definitions only.
--- An answer is the one that the source's `create_vemap` and `construct_boundaries` give, with a number where the source panics.
+-- It is the source's `create_vemap` and `construct_boundaries`, with the number of a refusal where the source panics.
 use Prim.Native.Nat.{ℕ, zero, suc, _-_}
 use mathlib.Core.Bool.{Bool, true, false}
 use mathlib.Core.List.{List, [], _∷_, _++_}
@@ -7,17 +7,19 @@ use lib.ListN.{length, getD, take, drop}
 use lib.Dec.{eqb}
 use Rattle.walk.specs.Walk.{Answer, wires, refused, Move, finish, refuse, fresh, along, side}
 
+-- the first where a test holds, else the second
 abbrev pub pick : {A : Type 0} → Bool → A → A → A
 pick true a b = a
 pick false a b = b
 
 -- ---- the table
 
--- A vertex has no list, or it has one, which could be empty.
+-- A vertex has no list, or it has one. The type allows an empty one, which is what refusal 13 is for.
 pub data Entry : Type 0 where
   absent : Entry
   present : List ℕ → Entry
 
+-- the uses in an entry, and whether there are any
 abbrev pub usesIn : Entry → List ℕ
 usesIn absent = []
 usesIn (present l) = l
@@ -82,7 +84,7 @@ again nowhere = finish
 again (vertex v) = fresh v
 
 -- "if the back's list has one use, take it; if two, take the first where exactly one of current use and first use is marked, else the second."
--- "A list missing on arrival is a dead end (11), one of three or more is .. (12), an empty one is 13". m says whether the current use is marked.
+-- "A list missing on arrival is a dead end (11), one of three or more is a crowd (12), an empty one is 13". m says whether the current use is marked.
 abbrev pub arrive : (ℕ → Bool) → Bool → Entry → Move
 arrive marked m absent = refuse 11
 arrive marked m (present []) = refuse 13
@@ -133,10 +135,11 @@ module _ (n : ℕ) (front back : ℕ → ℕ) (marked : ℕ → Bool) where
   steps (suc k) (fresh v) p = let q = starts v (p .table) (ended p) in steps k (next q) q
   steps (suc k) (along i) p = let q = follows i p in steps k (next q) q
 
+  -- the first start, with no wire done
   unfoldable pub opened : ℕ → Start → Table → Answer
   opened k nowhere t = wires []
   opened k (vertex v) t = let q = starts v t [] in steps k (next q) q
 
-  -- Each move but the last takes one use, so there are at most as many moves as uses.
+  -- The first use is taken at once, and each move but the last takes one more, so there are at most as many moves as uses.
   unfoldable pub tableWalk : List ℕ → Answer
   tableWalk us = opened (length us) (smallest n (tableOf front us)) (tableOf front us)
