@@ -67,7 +67,11 @@ module _ (front : ℕ → ℕ) where
 
   pub all-empty : (l : List ℕ) → ((v : ℕ) → at front v l ≡ []) → l ≡ []
   all-empty [] e = refl
-  all-empty (x ∷ l) e = let z : _≡_ {A = ℕ} (length (put true x (at front (front x) l))) 0 = subst (λ (t : Bool). length (put t x (at front (front x) l)) ≡ 0) (eq-eqb (front x) (front x) refl) (ap length (e (front x))) in absurd (omega arith)
+  all-empty (x ∷ l) e =
+      let z : _≡_ {A = ℕ} (length (put true x (at front (front x) l))) 0 =
+          subst (λ (t : Bool). length (put t x (at front (front x) l)) ≡ 0) (eq-eqb (front x) (front x) refl) (ap length (e (front x)))
+      in
+      absurd (omega arith)
 
   pub least-is : (v x : ℕ) (l : List ℕ) → ((w : ℕ) → w < v → at front w (x ∷ l) ≡ []) → 0 < length (at front v (x ∷ l)) → least front x l ≡ v
   least-is v x l e h =

@@ -11,13 +11,13 @@ use lib.ListN.{length, getD}
 use lib.Dec.{eqb, ltb}
 use borrow.Author.Tests.{eqb-true, eqb-false, ne-eqb, ltb-true, ltb-false}
 use Rattle.walk.specs.Walk.{Move, finish, refuse, fresh, along, State, put, del, sits, at, least, begin, begun, choose, closed, gone, turn, move, run, walk}
-use Rattle.walk.specs.Table.{Entry, absent, Table, Start, nowhere, vertex, Stand, pick, usesIn, hasUses, kept, update, pushed, filled, tableOf, without, taken}
+use Rattle.walk.specs.Table.{Entry, absent, Table, Start, nowhere, vertex, Stand, pick, entryUses, hasUses, kept, update, pushed, filled, tableOf, without, taken}
 use Rattle.walk.specs.Table.{firstFrom, smallest, again, arrive, starts, follows, next, steps, opened, tableWalk}
 use Rattle.walk.proofs.Buckets.{del-nil, at-same, at-other, at-more, filter-snoc, begin-finish, begin-fresh}
 
 -- ---- entries
 
-uses-kept : (l : List ℕ) → usesIn (kept l) ≡ l
+uses-kept : (l : List ℕ) → entryUses (kept l) ≡ l
 uses-kept [] = refl
 uses-kept (x ∷ l) = refl
 
@@ -48,8 +48,8 @@ module _ (n : ℕ) (front : ℕ → ℕ) where
   abbrev Within : List ℕ → Type 0
   Within l = (v : ℕ) → n ≤ v → at front v l ≡ []
 
-  uses-at : (t : Table) (l : List ℕ) → Holds t l → (v : ℕ) → usesIn (t v) ≡ at front v l
-  uses-at t l h v = ap usesIn (h v) ∙ uses-kept (at front v l)
+  uses-at : (t : Table) (l : List ℕ) → Holds t l → (v : ℕ) → entryUses (t v) ≡ at front v l
+  uses-at t l h v = ap entryUses (h v) ∙ uses-kept (at front v l)
 
   -- one use more
   pushed-there : (l : List ℕ) (u w : ℕ) → front u ≢ w → at front w (l ++ (u ∷ [])) ≡ at front w l

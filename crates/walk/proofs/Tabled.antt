@@ -7,7 +7,7 @@ use mathlib.Core.List.{List}
 use lib.ListN.{length, getD}
 use Rattle.walk.specs.Walk.{Answer, refused, walk}
 use Rattle.walk.specs.Table.{tableWalk}
-use Rattle.walk.specs.Claim.{out, into, Walked, TableWalks}
+use Rattle.walk.specs.Claim.{out, into, Claimed, TableWalks}
 use Rattle.walk.proofs.Theorem.{theorem}
 use Rattle.walk.proofs.Balance.{Outcome, outcomes, balanced, not-thirteen}
 use Rattle.walk.proofs.Same.{same}
@@ -17,7 +17,7 @@ module _ (n : ℕ) (front back : ℕ → ℕ) (marked : ℕ → Bool) (us : List
   tabled P r = subst P (sym (same n front back marked us fits)) r
 
   pub table-theorem : TableWalks n front back marked us
-  table-theorem = tabled (Walked front back us) (theorem front back marked us)
+  table-theorem = tabled (Claimed front back us) (theorem front back marked us)
 
   pub table-outcomes : Outcome (tableWalk n front back marked us)
   table-outcomes = tabled Outcome (outcomes front back marked us)

@@ -20,9 +20,9 @@ pub data Entry : Type 0 where
   present : List ℕ → Entry
 
 -- the uses in an entry, and whether there are any
-abbrev pub usesIn : Entry → List ℕ
-usesIn absent = []
-usesIn (present l) = l
+abbrev pub entryUses : Entry → List ℕ
+entryUses absent = []
+entryUses (present l) = l
 
 abbrev pub hasUses : Entry → Bool
 hasUses absent = false
@@ -61,7 +61,7 @@ without l i = take i l ++ drop (suc i) l
 
 -- the table from which the use at index i of v's list is taken
 abbrev pub taken : Table → ℕ → ℕ → Table
-taken t v i = update t v (kept (without (usesIn (t v)) i))
+taken t v i = update t v (kept (without (entryUses (t v)) i))
 
 -- ---- what comes next
 
@@ -110,8 +110,8 @@ ended p = p .done ++ (p .wire ∷ [])
 -- "take the smallest vertex that has uses as start, and its last use", however many it has
 abbrev pub starts : ℕ → Table → List (List ℕ) → Stand
 starts v t ws =
-    let i = length (usesIn (t v)) - 1 in
-    let u = getD (usesIn (t v)) i 0 in
+    let i = length (entryUses (t v)) - 1 in
+    let u = getD (entryUses (t v)) i 0 in
     record { start = v; last = u; table = taken t v i; wire = u ∷ []; done = ws }
 
 -- n vertices, the front and the back of a use, and whether its edge is marked
@@ -120,7 +120,7 @@ module _ (n : ℕ) (front back : ℕ → ℕ) (marked : ℕ → Bool) where
   abbrev pub follows : ℕ → Stand → Stand
   follows i p =
       let v = back (p .last) in
-      let u = getD (usesIn (p .table v)) i 0 in
+      let u = getD (entryUses (p .table v)) i 0 in
       record { start = p .start; last = u; table = taken (p .table) v i; wire = p .wire ++ (u ∷ []); done = p .done }
 
   -- "until the back is the start"
