@@ -69,7 +69,7 @@ module _ (front : ℕ → ℕ) where
   all-empty [] e = refl
   all-empty (x ∷ l) e =
       let z : _≡_ {A = ℕ} (length (put true x (at front (front x) l))) 0 =
-          subst (λ (t : Bool). length (put t x (at front (front x) l)) ≡ 0) (eq-eqb (front x) (front x) refl) (ap length (e (front x)))
+      subst (λ (t : Bool). length (put t x (at front (front x) l)) ≡ 0) (eq-eqb (front x) (front x) refl) (ap length (e (front x)))
       in
       absurd (omega arith)
 
