@@ -2,7 +2,7 @@
 use Prim.Native.Nat.{ℕ, zero, suc, _<_}
 use native.Mathlib.Omega.{arith}
 use native.Mathlib.Nat.{not-suc-le-zero}
-use mathlib.Core.Path.{_≡_, refl, ap, sym, subst, _∙_}
+use mathlib.Core.Path.{_≡_, refl, ap, sym, _∙_}
 use mathlib.Core.Logic.{_≢_}
 use mathlib.Core.Bool.{Bool, true, false}
 use mathlib.Core.List.{List, [], _∷_, _++_}
@@ -10,7 +10,7 @@ use lib.ListN.{length}
 use borrow.Author.Tests.{eqb-true, eq-eqb, ne-eqb}
 use Rattle.walk.specs.Walk.{finish, fresh, State, put, filter, cut, del, sits, at, least, begin, choose, turn, move}
 pub use Rattle.walk.specs.Table.{without}
-use Rattle.walk.proofs.Counts.{least-has}
+use Rattle.walk.proofs.Counts.{bit, count-cons, least-has}
 
 del-same-cons : (p : ℕ → Bool) (x : ℕ) (l : List ℕ) → ((n : ℕ) → filter p (del p n l) ≡ without (filter p l) n)
     → (t : Bool) → p x ≡ t → (n : ℕ) → filter p (cut t n x l (λ k. del p k l)) ≡ without (put t x (filter p l)) n
@@ -68,10 +68,7 @@ module _ (front : ℕ → ℕ) where
   pub all-empty : (l : List ℕ) → ((v : ℕ) → at front v l ≡ []) → l ≡ []
   all-empty [] e = refl
   all-empty (x ∷ l) e =
-      let z : _≡_ {A = ℕ} (length (put true x (at front (front x) l))) 0 =
-      subst (λ (t : Bool). length (put t x (at front (front x) l)) ≡ 0) (eq-eqb (front x) (front x) refl) (ap length (e (front x)))
-      in
-      absurd (omega arith)
+      absurd (omega (arith, count-cons (sits front (front x)) x l, ap bit (eq-eqb (front x) (front x) refl), ap length (e (front x))))
 
   pub least-is : (v x : ℕ) (l : List ℕ) → ((w : ℕ) → w < v → at front w (x ∷ l) ≡ []) → 0 < length (at front v (x ∷ l)) → least front x l ≡ v
   least-is v x l e h =
