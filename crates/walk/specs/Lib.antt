@@ -1,0 +1,4 @@
+pub mod Walk
+pub mod Table
+pub mod Claim
+pub mod Examples
