@@ -1,0 +1,104 @@
+-- One of several wires replaced, as it is written: what stands before it, the new wire, and what stood behind it.
+-- Assumes nothing.
+use mathlib.Core.Path.{_≡_, refl, ap, sym, _∙_}
+use mathlib.Core.Bool.{true, false}
+use mathlib.Core.List.{List, [], _∷_, _++_, append-assoc}
+use Prim.Native.Nat.{ℕ, zero, suc, _+_, _-_, _≤_, _<_}
+use native.Mathlib.Numerals.{add-one}
+use native.Mathlib.Omega.{arith}
+use lib.ListN.{length, getD, set, take, drop, length-append, length-drop, length-set, take-append-drop}
+use lib.Seq.{take-add, take-at, drop-drop, drop-at, take-take, length-take-le, take-set-lt, drop-set-lt, getD-take, drop-append-add}
+use Rattle.compress.specs.declared.Refusal.the-variants.{NoRoom}
+use Rattle.compress.specs.Shell.{usesFit}
+use Rattle.compress.specs.Wires.{total, wiresOf, usesOf, lengthsOf, over}
+use Rattle.compress.proofs.Wires.{wire-in}
+use Rattle.join.specs.declared.Join.the-variants.{Joined, JoinRefused}
+use Rattle.join.specs.Contract.{leavesJoin, storedIn}
+use Rattle.join.specs.Steps.{Lying}
+
+-- ---- wires of the lengths L
+total-split : (L : List ℕ) (w : ℕ) → total (take w L) + total (drop w L) ≡ total L
+unfolding total
+total-split [] zero = refl
+total-split [] (suc w) = refl
+total-split (m ∷ L) zero = refl
+total-split (m ∷ L) (suc w) = omega (arith, total-split L w)
+
+pub length-wires : (us L : List ℕ) → length (wiresOf us L) ≡ length L
+unfolding wiresOf
+length-wires us [] = refl
+length-wires us (m ∷ L) = ap suc (length-wires (drop m us) L)
+
+uses-all : (us L : List ℕ) → usesOf (wiresOf us L) ≡ take (total L) us
+unfolding wiresOf usesOf total
+uses-all us [] = refl
+uses-all us (m ∷ L) = rw (uses-all (drop m us) L) (sym (take-add m (total L) us))
+
+lengths-all : (us L : List ℕ) → total L ≤ length us → lengthsOf (wiresOf us L) ≡ L
+unfolding wiresOf lengthsOf total
+lengths-all us [] h = refl
+lengths-all us (m ∷ L) h =
+    let l : length (take m us) ≡ m = length-take-le m us (omega arith) in
+    rw (l, lengths-all (drop m us) L (rw length-drop (omega arith)))
+
+wire-of : (us L : List ℕ) (w : ℕ) → w < length L → getD (wiresOf us L) w [] ≡ take (getD L w 0) (drop (total (take w L)) us)
+unfolding wiresOf total
+wire-of us [] w h = absurd (omega arith)
+wire-of us (m ∷ L) zero h = refl
+wire-of us (m ∷ L) (suc w) h = wire-of (drop m us) L w (omega arith) ∙ rw (drop-drop (total (take w L)) m us)
+
+uses-set : (joined us L : List ℕ) (w : ℕ) → w < length L
+    → usesOf (set (wiresOf us L) w joined)
+    ≡ take (total (take w L)) us ++ (joined ++ usesOf (wiresOf (drop (total (take w L) + getD L w 0) us) (drop (suc w) L)))
+unfolding wiresOf usesOf total
+uses-set joined us [] w h = absurd (omega arith)
+uses-set joined us (m ∷ L) zero h = refl
+uses-set joined us (m ∷ L) (suc w) h =
+    let t = total (take w L) in
+    let p : m + (t + getD L w 0) ≡ m + t + getD L w 0 = omega arith in
+    rw (uses-set joined (drop m us) L w (omega arith), drop-drop (t + getD L w 0) m us, p, take-add m t us, append-assoc)
+
+lengths-set : (joined us L : List ℕ) (w : ℕ) → total L ≤ length us → lengthsOf (set (wiresOf us L) w joined) ≡ set L w (length joined)
+unfolding wiresOf lengthsOf total
+lengths-set joined us [] w h = refl
+lengths-set joined us (m ∷ L) zero h = rw (lengths-all (drop m us) L (rw length-drop (omega arith)))
+lengths-set joined us (m ∷ L) (suc w) h =
+    let l : length (take m us) ≡ m = length-take-le m us (omega arith) in
+    rw (l, lengths-set joined (drop m us) L w (rw length-drop (omega arith)))
+
+-- ---- wire w of the n that lie in their slices
+module _ (us ls : List ℕ) (n w : ℕ) (L : Lying us ls n) (lt : w < n) where
+  same-before : take w (take n ls) ≡ take w ls
+  same-before = take-take w n ls (omega arith)
+
+  -- it lies in the uses
+  pub wire-lies : total (take w ls) + getD ls w 0 + total (drop (w + 1) (take n ls)) ≡ total (take n ls)
+  wire-lies =
+      let s : total (take w ls) + total (drop w (take n ls)) ≡ total (take n ls) = rw same-before at (total-split (take n ls) w) in
+      wire-in us ls n w (total (take w ls)) (L .lengths) lt s
+
+  -- it is what is lent on
+  pub wire-there : take (total (take w ls) + getD ls w 0 - total (take w ls)) (drop (total (take w ls)) us) ≡ getD (wiresOf us (take n ls)) w []
+  wire-there =
+      let l : length (take n ls) ≡ n = length-take-le n ls (L .lengths) in
+      let p : total (take w ls) + getD ls w 0 - total (take w ls) ≡ getD ls w 0 = omega arith in
+      rw p (sym (wire-of us (take n ls) w (omega arith) ∙ rw (same-before, getD-take n ls w 0 lt)))
+
+  module _ (joined : List ℕ) where
+    -- the uses with the wire replaced
+    pub uses-new : (from to rest : ℕ) → from ≡ total (take w ls) → to ≡ from + getD ls w 0 → rest ≡ total (take n ls) - to
+        → usesOf (set (wiresOf us (take n ls)) w joined) ≡ take from us ++ (joined ++ take rest (drop to us))
+    uses-new from to rest ef et er =
+        let l : length (take n ls) ≡ n = length-take-le n ls (L .lengths) in
+        let p : total (drop (suc w) (take n ls)) ≡ rest = rw (← add-one w) (omega (arith, wire-lies)) in
+        let q : to ≡ total (take w ls) + getD ls w 0 = omega arith in
+        uses-set joined us (take n ls) w (omega arith)
+        ∙ rw (same-before, getD-take n ls w 0 lt, uses-all, p, ← q, ← ef)
+
+    lengths-new : over (lengthsOf (set (wiresOf us (take n ls)) w joined)) ls ≡ set ls w (length joined)
+    lengths-new =
+        let l : length (take n ls) ≡ n = length-take-le n ls (L .lengths) in
+        let e : lengthsOf (set (wiresOf us (take n ls)) w joined) ≡ take n (set ls w (length joined))
+        = lengths-set joined us (take n ls) w (L .uses) ∙ sym (take-set-lt n ls w (length joined) lt) in
+        let m : length (take n (set ls w (length joined))) ≡ n = length-take-le n (set ls w (length joined)) (rw length-set (L .lengths)) in
+        rw (e, m, ← drop-set-lt n ls w (length joined) lt) (take-append-drop n (set ls w (length joined)))

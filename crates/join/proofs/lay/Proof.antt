@@ -1,0 +1,45 @@
+use lib.Seq.{take-length}
+use lib.Seq.{take-all}
+use native.Mathlib.Omega.{arith}
+use Rattle.join.proofs.Laying.{laid-at}
+use borrow.Author.Needs.{needs}
+use Rattle.join.proofs.lay.Statement.{statement}
+use Rattle.join.proofs.lay.Tie as tie
+use Rattle.join.proofs.lay.Reads as reads
+use Rattle.join.proofs.lay.Lts as lts
+use Rattle.compress.proofs.copy.Reads as copy-reads
+
+-- src/lib.rt:70:38
+mul-copy : tie.Need-mul-copy
+mul-copy c = search needs
+
+-- src/lib.rt:70:38
+sub-copy : tie.Need-sub-copy
+sub-copy c = search needs
+
+-- src/lib.rt:70:38
+part-copy-start : tie.Need-part-copy-start
+part-copy-start c = search needs
+
+-- src/lib.rt:70:38
+part-copy-end : tie.Need-part-copy-end
+part-copy-end c = search needs
+
+-- src/lib.rt:70:5
+copy-requires : tie.Need-copy-requires
+copy-requires c κs = search needs
+
+-- src/lib.rt:66:1
+same-length : tie.Need-same-length
+same-length c = search needs
+
+-- src/lib.rt:66:1
+returns : tie.Need-returns
+returns c =
+    let s = c .before .before .before .before .before .before in
+    laid-at (s .args .out .now) _ (s .args .part .now) (s .args .at) (s .pre) (rw (take-length (s .args .part .now)) at (c .before .before .copy .ensures))
+
+pub lay-spec : {M : Type 1} → statement M
+lay-spec =
+    tie.close
+    (tie.spec mul-copy sub-copy part-copy-start part-copy-end copy-requires same-length returns)

@@ -1,0 +1,159 @@
+use borrow.Author.Needs.{needs}
+use Rattle.join.proofs.replace_wire.Statement.{statement}
+use Rattle.join.proofs.replace_wire.Tie as tie
+use Rattle.join.proofs.replace_wire.Reads as reads
+use Rattle.join.proofs.replace_wire.Lts as lts
+use Rattle.checks.proofs.total_uses.Reads as total-uses-reads
+use Rattle.compress.proofs.copy.Reads as copy-reads
+use Rattle.compress.proofs.uses_fit.Reads as uses-fit-reads
+use Rattle.join.proofs.lay.Reads as lay-reads
+
+-- src/lib.rt:158:9
+total-uses-requires : tie.Need-total-uses-requires
+total-uses-requires c κs = search needs
+
+-- src/lib.rt:159:21
+mul-to : tie.Need-mul-to
+mul-to c = search needs
+
+-- src/lib.rt:159:21
+slice-read-to : tie.Need-slice-read-to
+slice-read-to c = search needs
+
+-- src/lib.rt:159:21
+cast-to : tie.Need-cast-to
+cast-to c = ?
+
+-- src/lib.rt:159:14
+add-to : tie.Need-add-to
+add-to c = ?
+
+-- src/lib.rt:160:16
+total-uses-requires-2 : tie.Need-total-uses-requires-2
+total-uses-requires-2 c κs = search needs
+
+-- src/lib.rt:160:16
+sub-rest : tie.Need-sub-rest
+sub-rest c = ?
+
+-- src/lib.rt:161:14
+add-at : tie.Need-add-at
+add-at c = ?
+
+-- src/lib.rt:162:17
+add-count : tie.Need-add-count
+add-count c = ?
+
+-- src/lib.rt:163:9
+uses-fit-requires : tie.Need-uses-fit-requires
+uses-fit-requires c κs = search needs
+
+-- src/lib.rt:164:9
+same-length : tie.Need-same-length
+same-length c = search needs
+
+-- src/lib.rt:164:9
+same-length-2 : tie.Need-same-length-2
+same-length-2 c = search needs
+
+-- src/lib.rt:164:9
+returns : tie.Need-returns
+returns c = ?
+
+-- src/lib.rt:167:20
+mul-copy : tie.Need-mul-copy
+mul-copy c = ?
+
+-- src/lib.rt:167:20
+sub-copy : tie.Need-sub-copy
+sub-copy c = ?
+
+-- src/lib.rt:167:20
+part-copy-start : tie.Need-part-copy-start
+part-copy-start c = ?
+
+-- src/lib.rt:167:20
+part-copy-end : tie.Need-part-copy-end
+part-copy-end c = search needs
+
+-- src/lib.rt:167:39
+slice-aggregate-copy : tie.Need-slice-aggregate-copy
+slice-aggregate-copy c = search needs
+
+-- src/lib.rt:167:5
+copy-requires : tie.Need-copy-requires
+copy-requires c κs = search needs
+
+-- src/lib.rt:168:5
+lay-requires : tie.Need-lay-requires
+lay-requires c κs = ?
+
+-- src/lib.rt:169:9
+array-share-prefix-behind : tie.Need-array-share-prefix-behind
+array-share-prefix-behind c = search needs
+
+-- src/lib.rt:169:9
+slice-aggregate-lay : tie.Need-slice-aggregate-lay
+slice-aggregate-lay c = ?
+
+-- src/lib.rt:169:5
+lay-requires-2 : tie.Need-lay-requires-2
+lay-requires-2 c κs = ?
+
+-- src/lib.rt:170:18
+cast-lengths : tie.Need-cast-lengths
+cast-lengths c = search needs
+
+-- src/lib.rt:170:5
+mul-lengths : tie.Need-mul-lengths
+mul-lengths c = search needs
+
+-- src/lib.rt:170:5
+slice-write-lengths : tie.Need-slice-write-lengths
+slice-write-lengths c = search needs
+
+-- src/lib.rt:148:1
+same-length-3 : tie.Need-same-length-3
+same-length-3 c = search needs
+
+-- src/lib.rt:148:1
+same-length-4 : tie.Need-same-length-4
+same-length-4 c = search needs
+
+-- src/lib.rt:148:1
+returns-2 : tie.Need-returns-2
+returns-2 c = ?
+
+pub replace-wire-spec : {M : Type 1} → statement M
+replace-wire-spec =
+    tie.close
+    (tie.spec
+    total-uses-requires
+    mul-to
+    slice-read-to
+    cast-to
+    add-to
+    total-uses-requires-2
+    sub-rest
+    add-at
+    add-count
+    uses-fit-requires
+    same-length
+    same-length-2
+    returns
+    mul-copy
+    sub-copy
+    part-copy-start
+    part-copy-end
+    slice-aggregate-copy
+    copy-requires
+    lay-requires
+    array-share-prefix-behind
+    slice-aggregate-lay
+    lay-requires-2
+    cast-lengths
+    mul-lengths
+    slice-write-lengths
+    same-length-3
+    same-length-4
+    returns-2)
