@@ -21,7 +21,7 @@ total-split : (L : List ℕ) (w : ℕ) → total (take w L) + total (drop w L) �
 unfolding total
 total-split [] zero = refl
 total-split [] (suc w) = refl
-total-split (m ∷ L) zero = refl
+total-split (m ∷ L) zero = omega arith
 total-split (m ∷ L) (suc w) = omega (arith, total-split L w)
 
 pub length-wires : (us L : List ℕ) → length (wiresOf us L) ≡ length L
@@ -52,7 +52,9 @@ uses-set : (joined us L : List ℕ) (w : ℕ) → w < length L
     ≡ take (total (take w L)) us ++ (joined ++ usesOf (wiresOf (drop (total (take w L) + getD L w 0) us) (drop (suc w) L)))
 unfolding wiresOf usesOf total
 uses-set joined us [] w h = absurd (omega arith)
-uses-set joined us (m ∷ L) zero h = refl
+uses-set joined us (m ∷ L) zero h =
+    let p : 0 + m ≡ m = omega arith in
+    rw p
 uses-set joined us (m ∷ L) (suc w) h =
     let t = total (take w L) in
     let p : m + (t + getD L w 0) ≡ m + t + getD L w 0 = omega arith in
@@ -102,3 +104,60 @@ module _ (us ls : List ℕ) (n w : ℕ) (L : Lying us ls n) (lt : w < n) where
         = lengths-set joined us (take n ls) w (L .uses) ∙ sym (take-set-lt n ls w (length joined) lt) in
         let m : length (take n (set ls w (length joined))) ≡ n = length-take-le n (set ls w (length joined)) (rw length-set (L .lengths)) in
         rw (e, m, ← drop-set-lt n ls w (length joined) lt) (take-append-drop n (set ls w (length joined)))
+
+    -- the sums as they are taken: the uses before the wire, and all uses
+    module _ (from sum : ℕ) (ef : from ≡ total (take w ls)) (es : sum ≡ total (take n ls)) where
+      abbrev pub restOf : ℕ
+      restOf = sum - (from + getD ls w 0)
+
+      abbrev pub countOf : ℕ
+      countOf = from + length joined + restOf
+
+      pub bounds : (from + getD ls w 0 ≤ sum) × (sum ≤ 1024) × (sum ≤ length us)
+      bounds = (omega (arith, wire-lies), omega (arith, L .few), omega (arith, L .uses))
+
+      rest-size : length (take restOf (drop (from + getD ls w 0) us)) ≡ restOf
+      rest-size = length-take-le restOf (drop (from + getD ls w 0) us) (rw length-drop (omega (arith, bounds)))
+
+      uses-are : usesOf (set (wiresOf us (take n ls)) w joined) ≡ (take from us ++ joined) ++ take restOf (drop (from + getD ls w 0) us)
+      uses-are =
+          let p : restOf ≡ total (take n ls) - (from + getD ls w 0) = omega arith in
+          uses-new from (from + getD ls w 0) restOf ef refl p ∙ sym (append-assoc (take from us) joined _)
+
+      front-size : length (take from us ++ joined) ≡ from + length joined
+      front-size =
+          let l : length (take from us) ≡ from = length-take-le from us (omega (arith, bounds)) in
+          rw length-append (omega arith)
+
+      pub count-is : length (usesOf (set (wiresOf us (take n ls)) w joined)) ≡ countOf
+      count-is = rw (uses-are, length-append (take from us ++ joined), front-size, rest-size)
+
+      pub stored-full : usesFit us countOf ≡ false → leavesJoin (JoinRefused NoRoom) us ls ≡ storedIn us ls (set (wiresOf us (take n ls)) w joined)
+      unfolding storedIn
+      stored-full q = rw (count-is, q)
+
+      -- what stood behind the wire is kept aside, the new wire is written, and what was kept aside is written behind it
+      pub stored-done : (behind us₁ us₂ : List ℕ) → usesFit us countOf ≡ true → behind ≡ take restOf (drop (from + getD ls w 0) us)
+          → us₁ ≡ take from us ++ (joined ++ drop (from + length joined) us)
+          → us₂ ≡ take (from + length joined) us₁ ++ (behind ++ drop (from + length joined + length behind) us₁)
+          → leavesJoin (Joined countOf) us₂ (set ls w (length joined)) ≡ storedIn us ls (set (wiresOf us (take n ls)) w joined)
+      unfolding storedIn
+      stored-done behind us₁ us₂ q eb e₁ e₂ =
+          let front = take from us ++ joined in
+          let a = from + length joined in
+          let e : us₁ ≡ front ++ drop a us = e₁ ∙ sym (append-assoc (take from us) joined _) in
+          let t : take a us₁ ≡ front = rw e (take-at front (drop a us) a front-size) in
+          let d : drop (a + length behind) us₁ ≡ drop (a + length behind) us
+          = rw (e, ← front-size, drop-append-add front _ (length behind), front-size) (drop-drop (length behind) a us) in
+          let lb : length behind ≡ restOf = rw eb rest-size in
+          let u : us₂ ≡ over (usesOf (set (wiresOf us (take n ls)) w joined)) us
+          = e₂ ∙ rw (t, d, count-is, lb, uses-are, ← eb) (sym (append-assoc front behind _)) in
+          rw (u, count-is, q, lengths-new)
+
+-- the front of the buffer that holds what stood behind the wire
+pub kept-aside : (us buffer z : List ℕ) (to rest : ℕ) → to + rest ≤ length us → buffer ≡ take rest (take (length us - to) (drop to us)) ++ z
+    → take rest buffer ≡ take rest (drop to us)
+kept-aside us buffer z to rest h e =
+    let p : take rest (take (length us - to) (drop to us)) ≡ take rest (drop to us) = take-take rest (length us - to) (drop to us) (omega arith) in
+    let l : length (take rest (drop to us)) ≡ rest = length-take-le rest (drop to us) (rw length-drop (omega arith)) in
+    rw (e, p) (take-at (take rest (drop to us)) z rest l)
