@@ -14,7 +14,7 @@ use borrow.Author.Tests.{eq-eqb, ne-eqb, lt-ltb, le-ltb}
 use Rattle.compress.specs.declared.Edge.{Edge}
 use Rattle.compress.specs.Records.{pick, frontAt}
 use Rattle.compress.specs.Wires.{total, wiresOf}
-use Rattle.compress.proofs.Wires.{wire-in, wires-first, wire-size, part-at}
+use Rattle.compress.proofs.Wires.{wire-in, wires-first, wire-size, part-at, part-size}
 use Rattle.join.specs.Join.{indexOf, wireIndexOf}
 use Rattle.join.specs.Steps.{Readable, Lying}
 
@@ -27,6 +27,15 @@ index-le es v (u ∷ us) = step (eqb (frontAt es u) v) (indexOf es v us) (index-
     step : (b : Bool) (k : ℕ) → k ≤ length us → pick b 0 (k + 1) ≤ suc (length us)
     step true k h = omega arith
     step false k h = omega arith
+
+-- a part of uses that can be read can be read
+pub part-rows : (en : List ℕ) (ef : List Float) (us : List ℕ) (t from to : ℕ) → to ≤ t → t ≤ length us → Readable en ef (take t us)
+    → Readable en ef (take (to - from) (drop from us))
+part-rows en ef us t from to h lent r k lt =
+    let size : length (take t us) ≡ t = length-take-le t us lent in
+    let g : k < to - from = omega (arith, part-size us from to (omega arith)) in
+    let b : from + k < t = omega arith in
+    rw (part-at 0 us from to k g, ← getD-take t us (from + k) 0 b) (r (from + k) (omega arith))
 
 -- ---- `find_index`
 pub record Seeking (es : ℕ → Edge) (v : ℕ) (wire : List ℕ) (i : ℕ) : Type 0 where
@@ -82,14 +91,7 @@ module _ (es : ℕ → Edge) (v : ℕ) (us ls : List ℕ) (n : ℕ) (L : Lying u
         (i, wire-size us ls n w from (L .lengths) lt (omega (arith, L .uses)))
 
     pub here-rows : (en : List ℕ) (ef : List Float) → Readable en ef (take (total (take n ls)) us) → Readable en ef wireHere
-    here-rows en ef r k h =
-        let l = lies in
-        let t = total (take n ls) in
-        let size : length (take t us) ≡ t = length-take-le t us (L .uses) in
-        let g : k < from + getD ls w 0 - from = omega (arith, l .1) in
-        let b : from + k < t = omega (arith, l .0) in
-        let p : getD wireHere k 0 ≡ getD (take t us) (from + k) 0 = part-at 0 us from (from + getD ls w 0) k g ∙ sym (getD-take t us (from + k) 0 b) in
-        rw p (r (from + k) (omega arith))
+    here-rows en ef r = part-rows en ef us (total (take n ls)) from (from + getD ls w 0) (omega (arith, lies .0)) (L .uses) r
 
     next-wire : wireIndexOf es v (wiresOf (drop from us) (drop w (take n ls)))
         ≡ pick (ltb (indexOf es v wireHere) (length wireHere)) 0 (wireIndexOf es v (wiresOf (drop (from + getD ls w 0) us) (drop (w + 1) (take n ls))) + 1)

@@ -24,10 +24,13 @@ total-split [] (suc w) = refl
 total-split (m ∷ L) zero = omega arith
 total-split (m ∷ L) (suc w) = omega (arith, total-split L w)
 
-pub length-wires : (us L : List ℕ) → length (wiresOf us L) ≡ length L
+length-wires : (us L : List ℕ) → length (wiresOf us L) ≡ length L
 unfolding wiresOf
 length-wires us [] = refl
 length-wires us (m ∷ L) = ap suc (length-wires (drop m us) L)
+
+pub wire-count : (us ls : List ℕ) (n : ℕ) → n ≤ length ls → length (wiresOf us (take n ls)) ≡ n
+wire-count us ls n h = length-wires us (take n ls) ∙ length-take-le n ls h
 
 uses-all : (us L : List ℕ) → usesOf (wiresOf us L) ≡ take (total L) us
 unfolding wiresOf usesOf total
@@ -79,12 +82,15 @@ module _ (us ls : List ℕ) (n w : ℕ) (L : Lying us ls n) (lt : w < n) where
       let s : total (take w ls) + total (drop w (take n ls)) ≡ total (take n ls) = rw same-before at (total-split (take n ls) w) in
       wire-in us ls n w (total (take w ls)) (L .lengths) lt s
 
-  -- it is what is lent on
-  pub wire-there : take (total (take w ls) + getD ls w 0 - total (take w ls)) (drop (total (take w ls)) us) ≡ getD (wiresOf us (take n ls)) w []
-  wire-there =
+  -- it is what is lent on, from place `from`
+  pub wire-there : (from : ℕ) → from ≡ total (take w ls) → take (from + getD ls w 0 - from) (drop from us) ≡ getD (wiresOf us (take n ls)) w []
+  wire-there from e =
       let l : length (take n ls) ≡ n = length-take-le n ls (L .lengths) in
-      let p : total (take w ls) + getD ls w 0 - total (take w ls) ≡ getD ls w 0 = omega arith in
-      rw p (sym (wire-of us (take n ls) w (omega arith) ∙ rw (same-before, getD-take n ls w 0 lt)))
+      let p : from + getD ls w 0 - from ≡ getD ls w 0 = omega arith in
+      rw (p, e) (sym (wire-of us (take n ls) w (omega arith) ∙ rw (same-before, getD-take n ls w 0 lt)))
+
+  pub wire-within : (from : ℕ) → from ≡ total (take w ls) → from + getD ls w 0 ≤ total (take n ls)
+  wire-within from e = omega (arith, wire-lies)
 
   module _ (joined : List ℕ) where
     -- the uses with the wire replaced
