@@ -1,3 +1,9 @@
+use mathlib.Core.Path.{ap, _∙_}
+use lib.ListN.{take}
+use Rattle.compress.specs.Rows.{edgeAt}
+use Rattle.compress.specs.Wires.{wiresOf}
+use Rattle.join.specs.Contract.{joinLeaves}
+use Rattle.join.proofs.Joining.{first-holds, second-holds, none-holds}
 use borrow.Author.Needs.{needs}
 use Rattle.join.proofs.connect_checked.Statement.{statement}
 use Rattle.join.proofs.connect_checked.Tie as tie
@@ -24,7 +30,9 @@ same-length-2 c = search needs
 
 -- src/lib.rt:283:9
 returns : tie.Need-returns
-returns c = ?
+returns c =
+    let s = c .before .before .before .before .before .before .before .before .before .before .before .before .before .before .before in
+    c .before .before .before .before .connect-at .ensures ∙ ap (joinLeaves (s .args .uses .now) (s .args .lengths .now)) (first-holds (edgeAt (s .args .edge-numbers .now) (s .args .edge-floats .now)) (s .args .v0) (s .args .v1) (s .args .first .now) (s .args .second .now) (wiresOf (s .args .uses .now) (take (s .args .wires) (s .args .lengths .now))) _ (c .before .before .before .before .before .before .before .before .find-index .ensures) (c .before .before .before .before .before .before .before .if1 .taken))
 
 -- src/lib.rt:297:9
 find-index-requires-2 : tie.Need-find-index-requires-2
@@ -44,11 +52,15 @@ same-length-4 c = search needs
 
 -- src/lib.rt:299:9
 returns-2 : tie.Need-returns-2
-returns-2 c = ?
+returns-2 c =
+    let s = c .before .before .before .before .before .before .before .before .before .before .before .before .before .before .before .before .before in
+    c .before .before .before .before .connect-at2 .ensures ∙ ap (joinLeaves (s .args .uses .now) (s .args .lengths .now)) (second-holds (edgeAt (s .args .edge-numbers .now) (s .args .edge-floats .now)) (s .args .v0) (s .args .v1) (s .args .first .now) (s .args .second .now) (wiresOf (s .args .uses .now) (take (s .args .wires) (s .args .lengths .now))) _ (c .before .before .before .before .before .before .before .before .before .before .find-index .ensures) (c .before .before .before .before .before .before .before .before .before .if1 .left) _ (c .before .before .before .before .before .before .before .before .find-index2 .ensures) (c .before .before .before .before .before .before .before .if2 .taken))
 
 -- src/lib.rt:267:1
 returns-3 : tie.Need-returns-3
-returns-3 c = ?
+returns-3 c =
+    let s = c .before .before .before .before .before .before .before .before .before .before in
+    ap (joinLeaves (s .args .uses .now) (s .args .lengths .now)) (none-holds (edgeAt (s .args .edge-numbers .now) (s .args .edge-floats .now)) (s .args .v0) (s .args .v1) (s .args .first .now) (s .args .second .now) (wiresOf (s .args .uses .now) (take (s .args .wires) (s .args .lengths .now))) _ (c .before .before .before .find-index .ensures) (c .before .before .if1 .left) _ (c .before .find-index2 .ensures) (c .if2 .left))
 
 pub connect-checked-spec : {M : Type 1} → statement M
 connect-checked-spec =
