@@ -7,7 +7,7 @@ use Prim.Native.Nat.{ℕ, zero, suc, _+_, _-_, _≤_, _<_}
 use native.Mathlib.Numerals.{add-one}
 use native.Mathlib.Omega.{arith}
 use lib.ListN.{length, getD, set, take, drop, length-append, length-drop, length-set, take-append-drop}
-use lib.Seq.{take-add, take-at, drop-drop, drop-at, take-take, length-take-le, take-set-lt, drop-set-lt, getD-take, drop-append-add}
+use lib.Seq.{take-add, take-at, drop-drop, take-take, length-take-le, take-set-lt, drop-set-lt, getD-take, drop-append-add}
 use Rattle.compress.specs.declared.Refusal.the-variants.{NoRoom}
 use Rattle.compress.specs.Shell.{usesFit}
 use Rattle.compress.specs.Wires.{total, wiresOf, usesOf, lengthsOf, over}

@@ -1,6 +1,6 @@
 -- Worked examples of the join. Assumes nothing.
 use mathlib.Core.Path.{_≡_, refl}
-use mathlib.Core.List.{List, [], _∷_}
+use mathlib.Core.List.{[], _∷_}
 use Prim.Native.Nat.{ℕ}
 use lib.Ieee.{binary64, ofBits}
 use lib.ListN.{getD}

@@ -1,47 +1,37 @@
+-- `join::connect_at` meets its contract. Assumes nothing.
 use mathlib.Core.Path.{ap, _∙_}
+use borrow.Author.Needs.{needs}
 use lib.ListN.{take}
 use Rattle.compress.specs.Rows.{edgeAt}
 use Rattle.compress.specs.Wires.{wiresOf}
 use Rattle.join.specs.Contract.{joinLeaves}
 use Rattle.join.proofs.Joining.{connected-kept, connected-exchanged, exchanged}
-use borrow.Author.Needs.{needs}
 use Rattle.join.proofs.connect_at.Statement.{statement}
 use Rattle.join.proofs.connect_at.Tie as tie
-use Rattle.join.proofs.connect_at.Reads as reads
-use Rattle.join.proofs.connect_at.Lts as lts
-use Rattle.join.proofs.join_turned.Reads as join-turned-reads
 
--- src/lib.rt:239:9
 join-turned-requires : tie.Need-join-turned-requires
 join-turned-requires c κs = search needs
 
--- src/lib.rt:239:9
 same-length : tie.Need-same-length
 same-length c = search needs
 
--- src/lib.rt:239:9
 same-length-2 : tie.Need-same-length-2
 same-length-2 c = search needs
 
--- src/lib.rt:239:9
 returns : tie.Need-returns
 returns c =
     let s = c .before .before .before .before .before .before .before .before .before .before .before .before .before .before in
     c .before .before .before .before .join-turned .ensures ∙ ap (joinLeaves (s .args .uses .now) (s .args .lengths .now)) (connected-kept (edgeAt (s .args .edge-numbers .now) (s .args .edge-floats .now)) (s .args .v0) (s .args .v1) (s .args .first .now) (s .args .second .now) (wiresOf (s .args .uses .now) (take (s .args .wires) (s .args .lengths .now))) (s .args .i) (s .args .index) (c .before .before .before .before .before .before .before .if1 .taken))
 
--- src/lib.rt:252:5
 join-turned-requires-2 : tie.Need-join-turned-requires-2
 join-turned-requires-2 c κs = (exchanged (c .before .before .before .before .before .before .before .before .before .pre .0), c .before .before .before .before .before .before .before .before .before .pre .2)
 
--- src/lib.rt:222:1
 same-length-3 : tie.Need-same-length-3
 same-length-3 c = search needs
 
--- src/lib.rt:222:1
 same-length-4 : tie.Need-same-length-4
 same-length-4 c = search needs
 
--- src/lib.rt:222:1
 returns-2 : tie.Need-returns-2
 returns-2 c =
     let s = c .before .before .before .before .before .before .before .before .before .before .before .before .before .before in

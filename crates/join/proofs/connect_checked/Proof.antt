@@ -1,62 +1,48 @@
+-- `join::connect_checked` meets its contract. Assumes nothing.
 use mathlib.Core.Path.{ap, _∙_}
+use borrow.Author.Needs.{needs}
 use lib.ListN.{take}
 use Rattle.compress.specs.Rows.{edgeAt}
 use Rattle.compress.specs.Wires.{wiresOf}
 use Rattle.join.specs.Contract.{joinLeaves}
 use Rattle.join.proofs.Joining.{first-holds, second-holds, none-holds}
-use borrow.Author.Needs.{needs}
 use Rattle.join.proofs.connect_checked.Statement.{statement}
 use Rattle.join.proofs.connect_checked.Tie as tie
-use Rattle.join.proofs.connect_checked.Reads as reads
-use Rattle.join.proofs.connect_checked.Lts as lts
-use Rattle.join.proofs.connect_at.Reads as connect-at-reads
-use Rattle.join.proofs.find_index.Reads as find-index-reads
 
--- src/lib.rt:281:9
 find-index-requires : tie.Need-find-index-requires
 find-index-requires c κs = search needs
 
--- src/lib.rt:283:9
 connect-at-requires : tie.Need-connect-at-requires
 connect-at-requires c κs = search needs
 
--- src/lib.rt:283:9
 same-length : tie.Need-same-length
 same-length c = search needs
 
--- src/lib.rt:283:9
 same-length-2 : tie.Need-same-length-2
 same-length-2 c = search needs
 
--- src/lib.rt:283:9
 returns : tie.Need-returns
 returns c =
     let s = c .before .before .before .before .before .before .before .before .before .before .before .before .before .before .before in
     c .before .before .before .before .connect-at .ensures ∙ ap (joinLeaves (s .args .uses .now) (s .args .lengths .now)) (first-holds (edgeAt (s .args .edge-numbers .now) (s .args .edge-floats .now)) (s .args .v0) (s .args .v1) (s .args .first .now) (s .args .second .now) (wiresOf (s .args .uses .now) (take (s .args .wires) (s .args .lengths .now))) _ (c .before .before .before .before .before .before .before .before .find-index .ensures) (c .before .before .before .before .before .before .before .if1 .taken))
 
--- src/lib.rt:297:9
 find-index-requires-2 : tie.Need-find-index-requires-2
 find-index-requires-2 c κs = search needs
 
--- src/lib.rt:299:9
 connect-at-requires-2 : tie.Need-connect-at-requires-2
 connect-at-requires-2 c κs = search needs
 
--- src/lib.rt:299:9
 same-length-3 : tie.Need-same-length-3
 same-length-3 c = search needs
 
--- src/lib.rt:299:9
 same-length-4 : tie.Need-same-length-4
 same-length-4 c = search needs
 
--- src/lib.rt:299:9
 returns-2 : tie.Need-returns-2
 returns-2 c =
     let s = c .before .before .before .before .before .before .before .before .before .before .before .before .before .before .before .before .before in
     c .before .before .before .before .connect-at2 .ensures ∙ ap (joinLeaves (s .args .uses .now) (s .args .lengths .now)) (second-holds (edgeAt (s .args .edge-numbers .now) (s .args .edge-floats .now)) (s .args .v0) (s .args .v1) (s .args .first .now) (s .args .second .now) (wiresOf (s .args .uses .now) (take (s .args .wires) (s .args .lengths .now))) _ (c .before .before .before .before .before .before .before .before .before .before .find-index .ensures) (c .before .before .before .before .before .before .before .before .before .if1 .left) _ (c .before .before .before .before .before .before .before .before .find-index2 .ensures) (c .before .before .before .before .before .before .before .if2 .taken))
 
--- src/lib.rt:267:1
 returns-3 : tie.Need-returns-3
 returns-3 c =
     let s = c .before .before .before .before .before .before .before .before .before .before in

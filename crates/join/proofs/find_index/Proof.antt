@@ -1,3 +1,4 @@
+-- `join::find_index` meets its contract. Assumes nothing.
 use Prim.Native.Nat.{_-_}
 use native.Mathlib.Omega.{arith}
 use lib.ListN.{length}
@@ -5,9 +6,6 @@ use Rattle.compress.specs.Rows.{edgeAt}
 use Rattle.join.proofs.Places.{Seeking, seeking-start, seeking-found, seeking-turn, seeking-done}
 use Rattle.join.proofs.find_index.Statement.{statement}
 use Rattle.join.proofs.find_index.Tie as tie
-use Rattle.join.proofs.find_index.Reads as reads
-use Rattle.join.proofs.find_index.Lts as lts
-use Rattle.compress.proofs.front_at.Reads as front-at-reads
 
 abbrev Inv-loop : tie.InvT-loop
 Inv-loop edge-numbers edge-floats wire v i₀ i = Seeking (edgeAt edge-numbers edge-floats) v wire i
@@ -15,39 +13,30 @@ Inv-loop edge-numbers edge-floats wire v i₀ i = Seeking (edgeAt edge-numbers e
 abbrev μ-loop : tie.MeasureT-loop
 μ-loop edge-numbers edge-floats wire v i₀ i = length wire - i
 
--- src/lib.rt:29:5
 loop-holds : tie.Need-loop-holds Inv-loop μ-loop
 loop-holds c = seeking-start _ _ _
 
--- src/lib.rt:30:58
 mul-front-at : tie.Need-mul-front-at Inv-loop μ-loop
 mul-front-at c = omega arith
 
--- src/lib.rt:30:58
 shared-slice-read-front-at : tie.Need-shared-slice-read-front-at Inv-loop μ-loop
 shared-slice-read-front-at c = omega arith
 
--- src/lib.rt:30:12
 front-at-requires : tie.Need-front-at-requires Inv-loop μ-loop
 front-at-requires c κs = c .before .before .before .before .before .before .pre (c .before .before .loop .i) (c .before .loop-test .taken)
 
--- src/lib.rt:31:13
 returns : tie.Need-returns Inv-loop μ-loop
 returns c = seeking-found _ _ _ _ (c .before .before .before .before .loop .inv) (c .before .before .before .loop-test .taken) _ (c .before .front-at .ensures) (c .if1 .taken)
 
--- src/lib.rt:33:9
 add-i : tie.Need-add-i Inv-loop μ-loop
 add-i c = omega arith
 
--- src/lib.rt:29:5
 loop-less : tie.Need-loop-less Inv-loop μ-loop
 loop-less c = omega arith
 
--- src/lib.rt:29:5
 loop-again : tie.Need-loop-again Inv-loop μ-loop
 loop-again c = seeking-turn _ _ _ _ (c .before .before .before .before .loop .inv) (c .before .before .before .loop-test .taken) _ (c .before .front-at .ensures) (c .if1 .left)
 
--- src/lib.rt:24:1
 returns-2 : tie.Need-returns-2 Inv-loop μ-loop
 returns-2 c = seeking-done _ _ _ _ (c .before .loop .inv) (c .loop-test .left)
 

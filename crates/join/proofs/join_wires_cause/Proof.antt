@@ -1,20 +1,15 @@
+-- `join::join_wires_cause` meets its contract. Assumes nothing.
+use mathlib.Core.Path.{_≡_, sym}
 use Prim.Native.Nat.{_+_, _≤_, _<_}
 use native.Mathlib.Omega.{arith}
 use borrow.Author.Tests.{lt-ltb, le-ltb}
+use borrow.Author.Needs.{needs}
 use lib.ListN.{length, take}
 use Rattle.compress.specs.Wires.{total}
 use Rattle.join.specs.Contract.{joinWiresCause}
-use mathlib.Core.Path.{_≡_, sym}
-use borrow.Author.Needs.{needs}
 use Rattle.join.proofs.join_wires_cause.Statement.{statement}
 use Rattle.join.proofs.join_wires_cause.Tie as tie
-use Rattle.join.proofs.join_wires_cause.Reads as reads
-use Rattle.join.proofs.join_wires_cause.Lts as lts
-use Rattle.checks.proofs.lower.Reads as lower-reads
-use Rattle.checks.proofs.total_uses.Reads as total-uses-reads
-use Rattle.checks.proofs.use_rows.Reads as use-rows-reads
 
--- src/lib.rt:330:9
 returns : tie.Need-returns
 unfolding joinWiresCause
 returns c =
@@ -22,7 +17,6 @@ returns c =
     let few : 64 < a .wires + 2 = omega arith in
     simp (lt-ltb _ _ few)
 
--- src/lib.rt:333:9
 returns-2 : tie.Need-returns-2
 unfolding joinWiresCause
 returns-2 c =
@@ -31,7 +25,6 @@ returns-2 c =
     let lent : length (a .lengths .now) < a .wires = omega arith in
     simp (le-ltb _ _ few, lt-ltb _ _ lent)
 
--- src/lib.rt:336:9
 returns-3 : tie.Need-returns-3
 unfolding joinWiresCause
 returns-3 c =
@@ -41,7 +34,6 @@ returns-3 c =
     let one : length (a .first .now) < a .n = omega arith in
     simp (le-ltb _ _ few, le-ltb _ _ lent, lt-ltb _ _ one)
 
--- src/lib.rt:339:9
 returns-4 : tie.Need-returns-4
 unfolding joinWiresCause
 returns-4 c =
@@ -52,7 +44,6 @@ returns-4 c =
     let two : length (a .second .now) < a .m = omega arith in
     simp (le-ltb _ _ few, le-ltb _ _ lent, le-ltb _ _ one, lt-ltb _ _ two)
 
--- src/lib.rt:342:9
 returns-5 : tie.Need-returns-5
 unfolding joinWiresCause
 returns-5 c =
@@ -64,7 +55,6 @@ returns-5 c =
     let all : 1024 < a .n + a .m + total (take (a .wires) (a .lengths .now)) = omega arith in
     simp (le-ltb _ _ few, le-ltb _ _ lent, le-ltb _ _ one, le-ltb _ _ two, lt-ltb _ _ all)
 
--- src/lib.rt:345:9
 returns-6 : tie.Need-returns-6
 unfolding joinWiresCause
 returns-6 c =
@@ -76,15 +66,12 @@ returns-6 c =
     let all : 1024 < a .n + a .m + total (take (a .wires) (a .lengths .now)) = omega arith in
     simp (le-ltb _ _ few, le-ltb _ _ lent, le-ltb _ _ one, le-ltb _ _ two, lt-ltb _ _ all)
 
--- src/lib.rt:347:9
 total-uses-requires : tie.Need-total-uses-requires
 total-uses-requires c κs = search needs
 
--- src/lib.rt:348:14
 sub-if7 : tie.Need-sub-if7
 sub-if7 c = search needs
 
--- src/lib.rt:349:9
 returns-7 : tie.Need-returns-7
 unfolding joinWiresCause
 returns-7 c =
@@ -97,7 +84,6 @@ returns-7 c =
     let all : 1024 < a .n + a .m + total (take (a .wires) (a .lengths .now)) = omega arith in
     simp (le-ltb _ _ few, le-ltb _ _ lent, le-ltb _ _ one, le-ltb _ _ two, lt-ltb _ _ all)
 
--- src/lib.rt:352:9
 returns-8 : tie.Need-returns-8
 unfolding joinWiresCause
 returns-8 c =
@@ -111,27 +97,21 @@ returns-8 c =
     let uses : length (a .uses .now) < total (take (a .wires) (a .lengths .now)) = omega arith in
     simp (le-ltb _ _ few, le-ltb _ _ lent, le-ltb _ _ one, le-ltb _ _ two, le-ltb _ _ all, lt-ltb _ _ uses)
 
--- src/lib.rt:354:9
 use-rows-requires : tie.Need-use-rows-requires
 use-rows-requires c κs = search needs
 
--- src/lib.rt:355:9
 use-rows-requires-2 : tie.Need-use-rows-requires-2
 use-rows-requires-2 c κs = search needs
 
--- src/lib.rt:356:39
 use-rows-requires-3 : tie.Need-use-rows-requires-3
 use-rows-requires-3 c κs = search needs
 
--- src/lib.rt:356:22
 lower-requires : tie.Need-lower-requires
 lower-requires c κs = search needs
 
--- src/lib.rt:356:5
 lower-requires-2 : tie.Need-lower-requires-2
 lower-requires-2 c κs = search needs
 
--- src/lib.rt:317:1
 returns-9 : tie.Need-returns-9
 unfolding joinWiresCause
 returns-9 c =

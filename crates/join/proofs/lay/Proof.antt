@@ -1,39 +1,28 @@
-use lib.Seq.{take-length}
-use lib.Seq.{take-all}
-use native.Mathlib.Omega.{arith}
-use Rattle.join.proofs.Laying.{laid-at}
+-- `join::lay` meets its contract. Assumes nothing.
 use borrow.Author.Needs.{needs}
+use lib.Seq.{take-length}
+use Rattle.join.proofs.Laying.{laid-at}
 use Rattle.join.proofs.lay.Statement.{statement}
 use Rattle.join.proofs.lay.Tie as tie
-use Rattle.join.proofs.lay.Reads as reads
-use Rattle.join.proofs.lay.Lts as lts
-use Rattle.compress.proofs.copy.Reads as copy-reads
 
--- src/lib.rt:70:38
 mul-copy : tie.Need-mul-copy
 mul-copy c = search needs
 
--- src/lib.rt:70:38
 sub-copy : tie.Need-sub-copy
 sub-copy c = search needs
 
--- src/lib.rt:70:38
 part-copy-start : tie.Need-part-copy-start
 part-copy-start c = search needs
 
--- src/lib.rt:70:38
 part-copy-end : tie.Need-part-copy-end
 part-copy-end c = search needs
 
--- src/lib.rt:70:5
 copy-requires : tie.Need-copy-requires
 copy-requires c κs = search needs
 
--- src/lib.rt:66:1
 same-length : tie.Need-same-length
 same-length c = search needs
 
--- src/lib.rt:66:1
 returns : tie.Need-returns
 returns c =
     let s = c .before .before .before .before .before .before in

@@ -1,37 +1,29 @@
+-- `join::lay_first` meets its contract. Assumes nothing.
 use Prim.Native.Nat.{_≤_}
+use native.Mathlib.Omega.{arith}
+use borrow.Author.Needs.{needs}
 use lib.ListN.{length}
 use Rattle.compress.specs.Rows.{edgeAt}
-use native.Mathlib.Omega.{arith}
 use Rattle.join.proofs.Places.{index-le}
 use Rattle.join.proofs.Laying.{laid-turned}
-use borrow.Author.Needs.{needs}
 use Rattle.join.proofs.lay_first.Statement.{statement}
 use Rattle.join.proofs.lay_first.Tie as tie
-use Rattle.join.proofs.lay_first.Reads as reads
-use Rattle.join.proofs.lay_first.Lts as lts
-use Rattle.join.proofs.find_index.Reads as find-index-reads
-use Rattle.join.proofs.lay_turned.Reads as lay-turned-reads
 
--- src/lib.rt:94:9
 find-index-requires : tie.Need-find-index-requires
 find-index-requires c κs = search needs
 
--- src/lib.rt:95:5
 lay-turned-requires : tie.Need-lay-turned-requires
 lay-turned-requires c κs = search needs
 
--- src/lib.rt:96:5
 lay-turned-requires-2 : tie.Need-lay-turned-requires-2
 lay-turned-requires-2 c κs =
     let a = c .before .before .before .before .before .before .before .before .before .before .before .args in
     let l = index-le (edgeAt (a .edge-numbers .now) (a .edge-floats .now)) (a .v0) (a .wire .now) in
     (omega (arith, c .before .before .before .before .before .find-index .ensures), omega (arith, c .before .before .before .before .before .before .before .before .before .before .before .pre .1, c .before .before .before .lay-turned .kept))
 
--- src/lib.rt:82:1
 same-length : tie.Need-same-length
 same-length c = search needs
 
--- src/lib.rt:82:1
 returns : tie.Need-returns
 returns c =
     let s = c .before .before .before .before .before .before .before .before .before .before .before .before .before .before in

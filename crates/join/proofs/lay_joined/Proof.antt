@@ -1,43 +1,33 @@
-use Rattle.wires.specs.Turn.{turned}
-use Rattle.join.specs.Join.{indexOf}
+-- `join::lay_joined` meets its contract. Assumes nothing.
 use mathlib.Core.Path.{sym}
-use Prim.Native.Nat.{_+_, _≤_}
 use native.Mathlib.Omega.{arith}
-use lib.ListN.{length, length-append}
+use borrow.Author.Needs.{needs}
+use lib.ListN.{length-append}
 use lib.Seq.{length-take-le}
 use Rattle.compress.specs.Rows.{edgeAt}
+use Rattle.wires.specs.Turn.{turned}
 use Rattle.wires.proofs.Turns.{length-turned}
+use Rattle.join.specs.Join.{indexOf}
 use Rattle.join.proofs.Places.{index-le}
 use Rattle.join.proofs.Laying.{turned-rows, append-rows}
-use borrow.Author.Needs.{needs}
 use Rattle.join.proofs.lay_joined.Statement.{statement}
 use Rattle.join.proofs.lay_joined.Tie as tie
-use Rattle.join.proofs.lay_joined.Reads as reads
-use Rattle.join.proofs.lay_joined.Lts as lts
-use Rattle.join.proofs.lay_first.Reads as lay-first-reads
-use Rattle.join.proofs.lay_second.Reads as lay-second-reads
 
--- src/lib.rt:142:62
 slice-aggregate-lay-first : tie.Need-slice-aggregate-lay-first
 slice-aggregate-lay-first c = search needs
 
--- src/lib.rt:142:5
 lay-first-requires : tie.Need-lay-first-requires
 lay-first-requires c κs = search needs
 
--- src/lib.rt:143:13
 add-n : tie.Need-add-n
 add-n c = search needs
 
--- src/lib.rt:144:43
 array-share-prefix-open : tie.Need-array-share-prefix-open
 array-share-prefix-open c = search needs
 
--- src/lib.rt:144:43
 slice-aggregate-lay-second : tie.Need-slice-aggregate-lay-second
 slice-aggregate-lay-second c = sym (length-take-le _ _ (omega (arith, c .before .before .before .before .before .before .before .before .before .before .pre .0 .2, c .before .before .lay-first .kept)))
 
--- src/lib.rt:144:5
 lay-second-requires : tie.Need-lay-second-requires
 lay-second-requires c κs =
     let s = c .before .before .before .before .before .before .before .before .before .before .before in
@@ -52,11 +42,9 @@ lay-second-requires c κs =
     rw (c .before .before .before .lay-first .ensures)
     (s .pre .0 .1, omega (arith, s .pre .0 .2, s .pre .0 .3, l, m, n), omega (arith, s .pre .0 .3), append-rows (a .edge-numbers .now) (a .edge-floats .now) p q (turned-rows (a .edge-numbers .now) (a .edge-floats .now) (a .i) (a .first .now) (s .pre .0 .0) (s .pre .1 .0)) (turned-rows (a .edge-numbers .now) (a .edge-floats .now) (indexOf es (a .v0) (a .wire .now)) (a .wire .now) k (s .pre .1 .1)))
 
--- src/lib.rt:125:1
 same-length : tie.Need-same-length
 same-length c = search needs
 
--- src/lib.rt:125:1
 returns : tie.Need-returns
 returns c =
     let s = c .before .before .before .before .before .before .before .before .before .before .before .before .before .before in

@@ -1,41 +1,30 @@
-use Prim.Native.Nat.{_+_, _<_}
+-- `join::lay_second` meets its contract. Assumes nothing.
+use Prim.Native.Nat.{_+_, _≤_, _<_}
 use native.Mathlib.Omega.{arith}
-use Prim.Native.Nat.{_≤_}
+use borrow.Author.Needs.{needs}
 use lib.ListN.{length}
 use Rattle.join.proofs.Laying.{laid-turned, closed-none, closed-found}
-use borrow.Author.Needs.{needs}
 use Rattle.join.proofs.lay_second.Statement.{statement}
 use Rattle.join.proofs.lay_second.Tie as tie
-use Rattle.join.proofs.lay_second.Reads as reads
-use Rattle.join.proofs.lay_second.Lts as lts
-use Rattle.join.proofs.find_index.Reads as find-index-reads
-use Rattle.join.proofs.lay_turned.Reads as lay-turned-reads
 
--- src/lib.rt:114:9
 find-index-requires : tie.Need-find-index-requires
 find-index-requires c κs = search needs
 
--- src/lib.rt:116:9
 returns : tie.Need-returns
 returns c = (closed-none _ _ _ _ _ (c .before .find-index .ensures) (c .if1 .taken), omega arith)
 
--- src/lib.rt:118:5
 lay-turned-requires : tie.Need-lay-turned-requires
 lay-turned-requires c κs = search needs
 
--- src/lib.rt:119:5
 lay-turned-requires-2 : tie.Need-lay-turned-requires-2
 lay-turned-requires-2 c κs = search needs
 
--- src/lib.rt:120:5
 add-result : tie.Need-add-result
 add-result c = search needs
 
--- src/lib.rt:101:1
 same-length : tie.Need-same-length
 same-length c = search needs
 
--- src/lib.rt:101:1
 returns-2 : tie.Need-returns-2
 returns-2 c =
     let s = c .before .before .before .before .before .before .before .before .before .before .before .before .before .before .before in
