@@ -1,5 +1,5 @@
 -- What a join answers: one new wire, the first that holds v0, is replaced by a wire as long as it and both open wires together, and every
--- other new wire stands as it did. Assumes nothing.
+-- other new wire stands as it did; what is no result leaves both slices as they were. Assumes nothing.
 use mathlib.Core.Path.{_≡_, refl}
 use mathlib.Core.Bool.{Bool, true, false}
 use mathlib.Core.List.{List, [], _∷_, _++_}
@@ -7,13 +7,18 @@ use Prim.Native.Nat.{ℕ, _+_, _<_}
 use native.Mathlib.Omega.{arith}
 use borrow.Author.Tests.{ltb-true}
 use lib.Dec.{eqb, ltb}
-use lib.ListN.{length, getD, set, length-append, length-drop, length-take, length-set}
+use lib.ListN.{length, getD, set, take, length-append, length-drop, length-take, length-set}
 use lib.Seq.{getD-set-same, getD-set-other}
+use lib.Ieee.{Float}
 use Rattle.compress.specs.declared.Edge.{Edge}
 use Rattle.compress.specs.Records.{pick}
-use Rattle.compress.specs.Said.{Said, result, none, refused, onResult}
+use Rattle.compress.specs.Rows.{edgeAt}
+use Rattle.compress.specs.Said.{Said, result, none, refused, onResult, refusedOr}
+use Rattle.compress.specs.Shell.{usesFit}
+use Rattle.compress.specs.Wires.{wiresOf, usesOf, lengthsOf, over}
 use Rattle.wires.specs.Turn.{turned}
 use Rattle.join.specs.Join.{indexOf, wireIndexOf, foundBefore, closedBy, joinedAt, joinedTo, connectedAt, connected}
+use Rattle.join.specs.Contract.{JoinOutcome, storedIn, joinLeaves, joinCause, joinOutcome}
 
 -- however far a wire is turned
 size-turned : (i : ℕ) (w : List ℕ) → length (turned i w) ≡ length w
@@ -109,3 +114,35 @@ module _ (es : ℕ → Edge) (v0 : ℕ) where
         let i = wireIndexOf es v0 (first ∷ second ∷ []) in
         found-replaces (length first + length second) ws 2 i _
         (λ h. connected-at-replaces first second ws i (indexOf es v0 (getD (first ∷ second ∷ []) i [])))
+
+-- ---- the call: what is not a result leaves both slices as they were
+abbrev pub Keeps : List ℕ → List ℕ → JoinOutcome → Said ℕ → Type 0
+Keeps us ls o (result n) = Unit
+Keeps us ls o none = (o .us ≡ us) × (o .ls ≡ ls)
+Keeps us ls o (refused n) = (o .us ≡ us) × (o .ls ≡ ls)
+
+module _ (us ls : List ℕ) where
+  stored-keeps : (ws : List (List ℕ)) → Keeps us ls (storedIn us ls ws) (storedIn us ls ws .said)
+  unfolding storedIn
+  stored-keeps ws = by-test (usesFit us (length (usesOf ws)))
+    where
+      room : JoinOutcome
+      room = record { said = result (length (usesOf ws)); us = over (usesOf ws) us; ls = over (lengthsOf ws) ls }
+
+      full : JoinOutcome
+      full = record { said = refused 6; us = us; ls = ls }
+
+      by-test : (b : Bool) → Keeps us ls (pick b room full) (pick b room full .said)
+      by-test true = tt
+      by-test false = (refl, refl)
+
+  leaves-keeps : (s : Said (List (List ℕ))) → Keeps us ls (joinLeaves us ls s) (joinLeaves us ls s .said)
+  leaves-keeps (result ws) = stored-keeps ws
+  leaves-keeps none = (refl, refl)
+  leaves-keeps (refused n) = (refl, refl)
+
+  pub call-keeps : (en : List ℕ) (ef : List Float) (a b : List ℕ) (v e n m k v0 v1 : ℕ)
+      → Keeps us ls (joinOutcome en ef a b us ls v e n m k v0 v1) (joinOutcome en ef a b us ls v e n m k v0 v1 .said)
+  unfolding joinOutcome
+  call-keeps en ef a b v e n m k v0 v1 =
+      leaves-keeps (refusedOr (joinCause en ef a b us ls v e n m k v0 v1) (connected (edgeAt en ef) v0 v1 (take n a) (take m b) (wiresOf us (take k ls))))

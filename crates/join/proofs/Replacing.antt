@@ -94,7 +94,7 @@ module _ (us ls : List ℕ) (n w : ℕ) (L : Lying us ls n) (lt : w < n) where
 
   module _ (joined : List ℕ) where
     -- the uses with the wire replaced
-    pub uses-new : (from to rest : ℕ) → from ≡ total (take w ls) → to ≡ from + getD ls w 0 → rest ≡ total (take n ls) - to
+    uses-new : (from to rest : ℕ) → from ≡ total (take w ls) → to ≡ from + getD ls w 0 → rest ≡ total (take n ls) - to
         → usesOf (set (wiresOf us (take n ls)) w joined) ≡ take from us ++ (joined ++ take rest (drop to us))
     uses-new from to rest ef et er =
         let l : length (take n ls) ≡ n = length-take-le n ls (L .lengths) in
@@ -135,7 +135,7 @@ module _ (us ls : List ℕ) (n w : ℕ) (L : Lying us ls n) (lt : w < n) where
           let l : length (take from us) ≡ from = length-take-le from us (omega (arith, bounds)) in
           rw length-append (omega arith)
 
-      pub count-is : length (usesOf (set (wiresOf us (take n ls)) w joined)) ≡ countOf
+      count-is : length (usesOf (set (wiresOf us (take n ls)) w joined)) ≡ countOf
       count-is = rw (uses-are, length-append (take from us ++ joined), front-size, rest-size)
 
       pub stored-full : usesFit us countOf ≡ false → leavesJoin (JoinRefused NoRoom) us ls ≡ storedIn us ls (set (wiresOf us (take n ls)) w joined)
