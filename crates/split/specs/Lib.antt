@@ -1,0 +1,4 @@
+-- The definitions that the contract of the split cites.
+pub mod Seams
+pub mod Split
+pub mod Contract
