@@ -1,7 +1,7 @@
 //! Named inputs at the corners and bounds of the specification, each with its
 //! answer written out by hand.
 
-mod ways;
+pub mod ways;
 
 use crate::compare::{Case, Expected};
 use crate::random::Random;

@@ -45,12 +45,13 @@ impl Default for Steps {
     }
 }
 
-/// A result before it is written back.
-struct Mended {
-    vertices: Vec<Vertex>,
-    edges: Vec<Edge>,
-    uses: Vec<u32>,
-    lengths: Vec<u32>,
+/// A result before it is written back: the vertices that are added, and all
+/// edges and wires.
+pub struct Mended {
+    pub vertices: Vec<Vertex>,
+    pub edges: Vec<Edge>,
+    pub uses: Vec<u32>,
+    pub lengths: Vec<u32>,
 }
 
 /// Makes the pass.
@@ -120,7 +121,7 @@ impl Steps {
 }
 
 /// A forward use is followed by the new edge, a reversed one comes after it.
-fn mend(number: u32, new: u32) -> [u32; 2] {
+pub fn mend(number: u32, new: u32) -> [u32; 2] {
     match number % 2 {
         0 => [number, 2 * new],
         _ => [2 * new + 1, number],
@@ -133,7 +134,7 @@ fn edge((front, back): (u32, u32), curve: Curve) -> Edge {
 }
 
 /// Writes a result over what was lent.
-fn write(call: Pass<'_>, mended: &Mended, counts: [usize; 3]) {
+pub fn write(call: Pass<'_>, mended: &Mended, counts: [usize; 3]) {
     let numbers = call.vertex_numbers.chunks_mut(VERTEX_NUMBERS);
     let rows = numbers.zip(call.vertex_floats.chunks_mut(VERTEX_FLOATS));
     for ((numbers, floats), vertex) in rows.skip(call.vertices).zip(&mended.vertices) {

@@ -5,7 +5,7 @@ pub mod near;
 pub mod pass;
 pub mod search;
 
-use oracle::port::{Nearest, NearestCopy, Pass, Port, Search, Sort, Unwrap, WireEnds};
+use oracle::port::{Cut, Join, Nearest, NearestCopy, Pass, Port, Search, Sort, Unwrap, WireEnds};
 use oracle::reference::Reference;
 use oracle::shell::Lent;
 
@@ -30,6 +30,8 @@ pub struct Behind {
     pub sort: fn(i32, &mut Sort) -> i32,
     pub nearest: fn(i32, &mut Nearest) -> i32,
     pub search: fn(i32, &mut Search) -> i32,
+    pub cut: fn(i32, &Lent, &mut Cut) -> i32,
+    pub join: fn(i32, &mut Join) -> i32,
 }
 
 /// A port that does something wrong after all else was right.
@@ -42,6 +44,8 @@ pub fn behind(name: &'static str, change: impl Fn(&mut Behind)) -> Mutant {
         sort: |answer, _| answer,
         nearest: |answer, _| answer,
         search: |answer, _| answer,
+        cut: |answer, _, _| answer,
+        join: |answer, _| answer,
     };
     change(&mut behind);
     (name, Box::new(behind))
@@ -84,6 +88,14 @@ impl Port for Only<'_> {
 
     fn find_non_simple_wire_divisor(&self, call: Search<'_>) -> i32 {
         self.port.find_non_simple_wire_divisor(call)
+    }
+
+    fn cut_edge_by_intersections(&self, call: Cut<'_>) -> i32 {
+        self.port.cut_edge_by_intersections(call)
+    }
+
+    fn connect_open_boundaries(&self, call: Join<'_>) -> i32 {
+        self.port.connect_open_boundaries(call)
     }
 }
 
@@ -138,5 +150,16 @@ impl Port for Behind {
             ..call
         });
         (self.search)(answer, &mut call)
+    }
+
+    fn cut_edge_by_intersections(&self, mut call: Cut<'_>) -> i32 {
+        let before = call.pass.copy();
+        let answer = right().cut_edge_by_intersections(call.again());
+        (self.cut)(answer, &before, &mut call)
+    }
+
+    fn connect_open_boundaries(&self, mut call: Join<'_>) -> i32 {
+        let answer = right().connect_open_boundaries(call.again());
+        (self.join)(answer, &mut call)
     }
 }
