@@ -197,10 +197,11 @@ fn cut(random: &mut Random, (t0, t1): (f64, f64)) -> [f64; CUT] {
 
 /// Shows one shell with every edge cut at t0, at t1 and in the middle, each in
 /// buffers of just the result's length; with the cut in the middle also with
-/// each buffer in turn one cell shorter. Then with no cut, with two, and with
-/// an edge that is not there.
+/// each buffer in turn one cell shorter. Then with an edge that is not there,
+/// and, in buffers of just the shell's length, with no cut and with two.
 fn each_cut(shell: &Shell, turn: usize, visit: &mut dyn FnMut(&CutEdge) -> bool) -> bool {
-    let point = [turn as f64, -0.0, 0.5];
+    let mut point = [turn as f64, -0.0, 0.5];
+    point.rotate_left(turn % 3);
     let at = |t: f64| [t, point[0], point[1], point[2]];
     let every = (0..shell.edges.len() as u32).all(|edge| {
         let (t0, t1) = shell.edges[edge as usize].curve.range();
@@ -212,8 +213,9 @@ fn each_cut(shell: &Shell, turn: usize, visit: &mut dyn FnMut(&CutEdge) -> bool)
     let edges = shell.edges.len() as u32;
     let mut input = CutEdge::exact(shell, edges, at(0.0), turn);
     let strange = every && visit(&input);
-    input.edge = turn as u32 % edges.max(1);
-    input.cut_count = 0;
+    let sizes = needed(shell.counts(), shell.wires.len());
+    input.lent.shorten(sizes);
+    (input.edge, input.cut_count) = (turn as u32 % edges.max(1), 0);
     let mut twice = input.clone();
     twice.cuts.extend(at(0.0).map(f64::to_bits));
     twice.cut_count = 2;

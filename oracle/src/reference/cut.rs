@@ -16,10 +16,9 @@ type Ends = (u32, u32);
 /// The steps of the cut.
 #[derive(Clone, Copy)]
 pub struct Steps {
-    /// All causes among 1 to 5 that the cuts meet, from the call and from the
-    /// range of the edge's curve if there is such an edge. The tables and
-    /// wires meet no cause 1 here.
-    pub causes: fn(&Cut, Option<Range>) -> Vec<i32>,
+    /// All causes among 1 to 5 that the cuts meet, from their cells and count
+    /// and from the range of the edge's curve if there is such an edge.
+    pub causes: fn(&[u64], usize, Option<Range>) -> Vec<i32>,
     /// Whether so many cuts are too many.
     pub too_many: fn(usize) -> bool,
     /// Whether a result of so many vertices, edges and uses has room.
@@ -62,10 +61,11 @@ impl Default for Steps {
 pub fn cut_edge_by_intersections(reference: &Reference, call: Cut<'_>) -> i32 {
     let Reference { tables, cut, .. } = reference;
     let mut causes = (tables.causes)(&call.pass.rows(), &call.pass.wires());
-    if causes != [1] {
+    if !causes.contains(&1) {
         let edges = edges(&call.pass);
         let edge = edges.get(call.edge as usize);
-        causes.extend((cut.causes)(&call, edge.map(|edge| edge.curve.range())));
+        let range = edge.map(|edge| edge.curve.range());
+        causes.extend((cut.causes)(call.cuts, call.cut_count, range));
     }
     if let Some(number) = (tables.choose)(&causes) {
         return number;
@@ -94,12 +94,12 @@ fn edges(call: &Pass) -> Vec<Edge> {
 }
 
 /// All causes among 1 to 5 that the cuts meet.
-pub fn causes(call: &Cut, range: Option<Range>) -> Vec<i32> {
-    if call.cuts.len() / 4 < call.cut_count {
+pub fn causes(cuts: &[u64], count: usize, range: Option<Range>) -> Vec<i32> {
+    if cuts.len() / 4 < count {
         return vec![1];
     }
     let mut found = Vec::new();
-    for row in call.cuts.chunks(4).take(call.cut_count) {
+    for row in cuts.chunks(4).take(count) {
         let row: Vec<f64> = row.iter().map(|&bits| f64::from_bits(bits)).collect();
         found.extend((!row.iter().all(|&float| sized(float))).then_some(4));
         let within = range.is_none_or(|(t0, t1)| t0 <= row[0] && row[0] <= t1);

@@ -15,6 +15,8 @@ pub type Found = Option<(usize, usize)>;
 pub struct Steps {
     /// Whether open wires of such lengths are refused.
     pub empty: fn(usize, usize) -> bool,
+    /// The two vertices.
+    pub vertices: fn(u32, u32) -> [u32; 2],
     /// The front of a use, from the use and the ends of its edge.
     pub front: fn(u32, [u32; 2]) -> u32,
     /// The place of a vertex among fronts.
@@ -44,6 +46,7 @@ impl Default for Steps {
     fn default() -> Self {
         Steps {
             empty: |first, second| first == 0 || second == 0,
+            vertices: |v0, v1| [v0, v1],
             front: |number, ends| ends[number as usize % 2],
             place: |fronts, vertex| fronts.iter().position(|&front| front == vertex),
             holder: |[first, second]| match (first, second) {
@@ -135,7 +138,8 @@ pub fn connect_open_boundaries(reference: &Reference, call: Join<'_>) -> i32 {
         steps: join,
         ends: ends.collect(),
     };
-    let Some(wires) = known.joined(open, new_wires(&call), [call.v0, call.v1]) else {
+    let vertices = (join.vertices)(call.v0, call.v1);
+    let Some(wires) = known.joined(open, new_wires(&call), vertices) else {
         return -1;
     };
     let uses = wires.concat();

@@ -1,6 +1,8 @@
 //! Ports that are wrong in one place each.
 #![allow(dead_code)]
 
+pub mod cut;
+pub mod join;
 pub mod near;
 pub mod pass;
 pub mod search;
@@ -11,6 +13,22 @@ use oracle::shell::Lent;
 
 /// A wrong port with the name of what is wrong.
 pub type Mutant = (&'static str, Box<dyn Port>);
+
+/// The wrong ports of a call.
+pub fn lists(call: &str) -> Vec<Vec<Mutant>> {
+    match call {
+        "split_closed_edges" => pass::lists(),
+        "get_mindiff" => vec![near::wrong_unwrapping(), near::wrong_numbers()],
+        "nearest_copy" => vec![near::wrong_copies(), near::wrong_copying()],
+        "boundary_type" => vec![near::wrong_kinds()],
+        "sort_wires" => vec![near::wrong_sorting(), near::wrong_sorting_calls()],
+        "nearest_correction" => search::lists_of_nearest(),
+        "find_non_simple_wire_divisor" => search::lists_of_search(),
+        "cut_edge_by_intersections" => cut::lists(),
+        "connect_open_boundaries" => join::lists(),
+        _ => panic!("no call of the name {call}"),
+    }
+}
 
 /// The reference with some steps replaced.
 pub fn step(name: &'static str, change: fn(&mut Reference)) -> Mutant {
@@ -31,7 +49,8 @@ pub struct Behind {
     pub nearest: fn(i32, &mut Nearest) -> i32,
     pub search: fn(i32, &mut Search) -> i32,
     pub cut: fn(i32, &Lent, &mut Cut) -> i32,
-    pub join: fn(i32, &mut Join) -> i32,
+    /// The uses and lengths of the new wires as they were come first.
+    pub join: fn(i32, [&[u32]; 2], &mut Join) -> i32,
 }
 
 /// A port that does something wrong after all else was right.
@@ -45,7 +64,7 @@ pub fn behind(name: &'static str, change: impl Fn(&mut Behind)) -> Mutant {
         nearest: |answer, _| answer,
         search: |answer, _| answer,
         cut: |answer, _, _| answer,
-        join: |answer, _| answer,
+        join: |answer, _, _| answer,
     };
     change(&mut behind);
     (name, Box::new(behind))
@@ -159,7 +178,8 @@ impl Port for Behind {
     }
 
     fn connect_open_boundaries(&self, mut call: Join<'_>) -> i32 {
+        let (uses, lengths) = (call.uses.to_vec(), call.lengths.to_vec());
         let answer = right().connect_open_boundaries(call.again());
-        (self.join)(answer, &mut call)
+        (self.join)(answer, [&uses, &lengths], &mut call)
     }
 }

@@ -1,11 +1,13 @@
 //! Small joins over four edges between four vertices.
 //!
-//! In full: both open wires of up to two uses, both vertices, four edge tables
-//! and four lists of new wires. Then both open wires of up to three uses, for
-//! each pair of which a few of all choices of the rest are taken in turn. Then
-//! every list of up to two new wires of up to two uses, with both vertices and
-//! a few pairs of open wires. The buffer for uses is just long enough, longer,
-//! or one cell too short in turn.
+//! First every list of up to two new wires of up to two uses, with all pairs
+//! of vertices and six pairs of open wires, each of these over one of the edge
+//! tables. Then every pair of open wires of up to two uses, with all pairs of
+//! vertices, four edge tables and four lists of new wires. Then every pair of
+//! open wires of up to three uses, each with six of the 384 choices of an edge
+//! table, of one of six lists of new wires and of the vertices, taken in turn.
+//! The buffer for uses is just long enough in most cases, and longer or one
+//! cell too short in some, in turn as well.
 
 use super::JoinWires;
 use crate::calls::tables::{edge_table, spans};
@@ -24,7 +26,7 @@ const TABLES: [[(u32, u32); 4]; 4] = [
 const NEW: [&[&str]; 6] = [
     &["0+ 0-"],
     &["", "1+ 0- 2-"],
-    &["3+ 3-", "2+ 1- 0+ 3-"],
+    &["3+ 0+ 2-", "0+ 1- 0- 3-"],
     &["0+ 1+ 2+ 3+"],
     &[],
     &["2-", "2+"],
@@ -54,7 +56,7 @@ pub fn each(visit: &mut dyn FnMut(&JoinWires) -> bool) {
         turn: 0,
         visit,
     };
-    let _ = small.in_full() && small.longer() && small.every_new_wire();
+    let _ = small.every_new_wire() && small.in_full() && small.longer();
 }
 
 /// What is chosen from, and who is shown the choices.
@@ -82,38 +84,6 @@ impl Small<'_> {
         (self.visit)(&input)
     }
 
-    /// Open wires of up to two uses with all of the rest.
-    fn in_full(&mut self) -> bool {
-        let wires = wires_of(2);
-        let new = self.new.clone();
-        wires.iter().all(|first| {
-            wires.iter().all(|second| {
-                (0..16 * self.tables.len() * IN_FULL).all(|code| {
-                    let (table, list) = (code / 16 % 4, code / 64);
-                    self.show(table, [first, second], &new[list], code % 16)
-                })
-            })
-        })
-    }
-
-    /// Open wires of up to three uses with some of the rest, in turn. Both
-    /// steps below have no divisor in common with the count of choices.
-    fn longer(&mut self) -> bool {
-        let (wires, new) = (wires_of(3), self.new.clone());
-        let choices = 16 * self.tables.len() * new.len();
-        let mut code = 0;
-        wires.iter().all(|first| {
-            wires.iter().all(|second| {
-                code += 5;
-                (0..CHOICES).all(|_| {
-                    code = (code + 91) % choices;
-                    let (table, list) = (code / 16 % 4, code / 64);
-                    self.show(table, [first, second], &new[list], code % 16)
-                })
-            })
-        })
-    }
-
     /// Every list of new wires with the chosen pairs of open wires.
     fn every_new_wire(&mut self) -> bool {
         let wires = wires_of(2);
@@ -130,6 +100,39 @@ impl Small<'_> {
         lists.iter().all(|new| {
             open.iter().enumerate().all(|(table, [first, second])| {
                 (0..16).all(|ends| self.show(table % 4, [first, second], new, ends))
+            })
+        })
+    }
+
+    /// Open wires of up to two uses with all of the rest.
+    fn in_full(&mut self) -> bool {
+        let wires = wires_of(2);
+        let new = self.new.clone();
+        wires.iter().all(|first| {
+            wires.iter().all(|second| {
+                (0..16 * self.tables.len() * IN_FULL).all(|code| {
+                    let (table, list) = (code / 16 % 4, code / 64);
+                    self.show(table, [first, second], &new[list], code % 16)
+                })
+            })
+        })
+    }
+
+    /// Open wires of up to three uses with some of the rest, in turn. The
+    /// steps from one choice and from one pair to the next have no divisor in
+    /// common with the count of choices, so that all of them come up.
+    fn longer(&mut self) -> bool {
+        let (wires, new) = (wires_of(3), self.new.clone());
+        let choices = 16 * self.tables.len() * new.len();
+        let mut code = 0;
+        wires.iter().all(|first| {
+            wires.iter().all(|second| {
+                code += 5;
+                (0..CHOICES).all(|_| {
+                    code = (code + 91) % choices;
+                    let (table, list) = (code / 16 % 4, code / 64);
+                    self.show(table, [first, second], &new[list], code % 16)
+                })
             })
         })
     }
