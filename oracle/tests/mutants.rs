@@ -127,9 +127,12 @@ fn the_small_group_finds_every_wrong_cut_and_join() {
     ];
     all_found("cut_edge_by_intersections", &[Group::Small], cuts);
     let joins = vec![
-        join::wrong_open_wires(),
+        join::wrong_changes(),
+        join::wrong_turns(),
+        join::wrong_holders(),
         join::wrong_places(),
         join::wrong_new_wires(),
+        join::wrong_parts(),
         join::wrong_neighbours(),
         join::wrong_join_ends(),
     ];

@@ -391,14 +391,16 @@ impl Families for JoinWires {
             };
             (0..random.below(12)).map(|_| cell(random)).collect()
         };
+        let counts = [0; 4].map(|_| any_count(random));
+        let [first_count, second_count, v0, v1] = counts.map(|any| random.pick(&[0, 1, 1, any]));
         JoinWires {
             new,
             first: uses(random),
             second: uses(random),
-            first_count: any_count(random),
-            second_count: any_count(random),
-            v0: any_count(random) as u32,
-            v1: any_count(random) as u32,
+            first_count,
+            second_count,
+            v0: v0 as u32,
+            v1: v1 as u32,
         }
     }
 

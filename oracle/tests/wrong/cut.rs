@@ -15,11 +15,16 @@ pub fn lists() -> Vec<Vec<Mutant>> {
         wrong_points(),
         wrong_mending(),
         wrong_counts(),
+        wrong_cut_order(),
         wrong_without_cut(),
+        wrong_ranges(),
         wrong_cells(),
+        wrong_cut_rows(),
         wrong_cut_bounds(),
         wrong_cut_writes(),
-        wrong_cut_rows(),
+        wrong_cut_told(),
+        wrong_cut_ends(),
+        wrong_cut_cells(),
     ]
 }
 
@@ -150,6 +155,24 @@ pub fn wrong_counts() -> Vec<Mutant> {
             r.cut.too_many = |_| false
         }),
         step("two cuts pass", |r| r.cut.too_many = |cuts| cuts > 2),
+        step("rows of cuts wrap", |r| {
+            r.cut.causes = |cuts, count, range| match count.wrapping_mul(4) > cuts.len() {
+                true => vec![1],
+                false => causes(cuts, count.min(cuts.len() / 4), range),
+            }
+        }),
+        step("a float too few passes", |r| {
+            r.cut.causes = |cuts, count, range| match count.checked_mul(4) {
+                Some(cells) if cells == cuts.len() + 1 => vec![],
+                _ => causes(cuts, count, range),
+            }
+        }),
+    ]
+}
+
+/// Refusals in the wrong order.
+pub fn wrong_cut_order() -> Vec<Mutant> {
+    vec![
         after("6 before 14", |answer, before, call| match answer {
             14 if !have_one_more(before, call) => 6,
             _ => answer,
@@ -175,18 +198,6 @@ pub fn wrong_counts() -> Vec<Mutant> {
         after("14 before 3", |answer, _, call| match answer {
             3 if call.cut_count > 1 => 14,
             _ => answer,
-        }),
-        step("rows of cuts wrap", |r| {
-            r.cut.causes = |cuts, count, range| match count.wrapping_mul(4) > cuts.len() {
-                true => vec![1],
-                false => causes(cuts, count.min(cuts.len() / 4), range),
-            }
-        }),
-        step("a float too few passes", |r| {
-            r.cut.causes = |cuts, count, range| match count.checked_mul(4) {
-                Some(cells) if cells == cuts.len() + 1 => vec![],
-                _ => causes(cuts, count, range),
-            }
         }),
     ]
 }
@@ -238,8 +249,8 @@ fn changed(cuts: &[u64], change: impl Fn(usize, f64) -> f64) -> Vec<u64> {
     cells.map(other).collect()
 }
 
-/// Cells of cuts that are looked at wrongly.
-pub fn wrong_cells() -> Vec<Mutant> {
+/// Parameters that are held against the wrong range.
+pub fn wrong_ranges() -> Vec<Mutant> {
     vec![
         step("a cut at t0 is refused", |r| {
             r.cut.causes = |cuts, count, range| {
@@ -265,6 +276,23 @@ pub fn wrong_cells() -> Vec<Mutant> {
                 causes(cuts, count, wide)
             }
         }),
+        after("the range of the first edge", |answer, before, call| {
+            let t = || f64::from_bits(call.cuts[0]);
+            let within = || {
+                let (t0, t1) = before.tables.edge(0).curve.range();
+                t0 <= t() && t() <= t1
+            };
+            match (answer, call.cut_count) {
+                (5, 1) if within() => 0,
+                _ => answer,
+            }
+        }),
+    ]
+}
+
+/// Floats of cuts that are looked at wrongly.
+pub fn wrong_cells() -> Vec<Mutant> {
+    vec![
         step("only the parameter is looked at", |r| {
             r.cut.causes = |cuts, count, range| {
                 let seen = |cell, float| if cell == 0 { float } else { 0.0 };
@@ -292,6 +320,12 @@ pub fn wrong_cells() -> Vec<Mutant> {
                 causes(&changed(cuts, nan), count, range)
             }
         }),
+    ]
+}
+
+/// Rows of cuts that are looked at wrongly, and a wrong number.
+pub fn wrong_cut_rows() -> Vec<Mutant> {
+    vec![
         step("cuts past the count are looked at", |r| {
             r.cut.causes = |cuts, count, range| causes(cuts, count.max(cuts.len() / 4), range)
         }),
@@ -305,17 +339,6 @@ pub fn wrong_cells() -> Vec<Mutant> {
             r.cut.causes = |cuts, count, range| {
                 let other = |cause| if cause == 3 { 2 } else { cause };
                 causes(cuts, count, range).into_iter().map(other).collect()
-            }
-        }),
-        after("the range of the first edge", |answer, before, call| {
-            let t = || f64::from_bits(call.cuts[0]);
-            let within = || {
-                let (t0, t1) = before.tables.edge(0).curve.range();
-                t0 <= t() && t() <= t1
-            };
-            match (answer, call.cut_count) {
-                (5, 1) if within() => 0,
-                _ => answer,
             }
         }),
     ]
@@ -361,7 +384,7 @@ pub fn wrong_cut_bounds() -> Vec<Mutant> {
     ]
 }
 
-/// Writing too much, too little or too early.
+/// Writing where nothing may be written, and calls that are not read.
 pub fn wrong_cut_writes() -> Vec<Mutant> {
     vec![
         after("the old end written before 6", |answer, before, call| {
@@ -388,6 +411,14 @@ pub fn wrong_cut_writes() -> Vec<Mutant> {
             }
             answer
         }),
+        after("every call refused", |_, _, _| 1),
+        after("every call done", |_, _, _| 0),
+    ]
+}
+
+/// Counts and lengths of a result that are wrong.
+pub fn wrong_cut_told() -> Vec<Mutant> {
+    vec![
         after("vertices counted as before", |answer, before, call| {
             if answer == 0 {
                 call.pass.out[0] = before.tables.vertices;
@@ -411,13 +442,11 @@ pub fn wrong_cut_writes() -> Vec<Mutant> {
             call.pass.lengths.copy_from_slice(&before.lengths);
             answer
         }),
-        after("every call refused", |_, _, _| 1),
-        after("every call done", |_, _, _| 0),
     ]
 }
 
-/// Cells that are not left alone, or not written.
-pub fn wrong_cut_rows() -> Vec<Mutant> {
+/// Cells that are not left alone.
+pub fn wrong_cut_ends() -> Vec<Mutant> {
     vec![
         after("uses behind the result cleared", |answer, _, call| {
             if answer == 0 {
@@ -447,6 +476,20 @@ pub fn wrong_cut_rows() -> Vec<Mutant> {
             }
             answer
         }),
+        after("NaN made quiet past the result", |answer, _, call| {
+            for cell in call.pass.vertex_floats.iter_mut().filter(|_| answer == 0) {
+                if f64::from_bits(*cell).is_nan() {
+                    *cell |= 1 << 51;
+                }
+            }
+            answer
+        }),
+    ]
+}
+
+/// Cells of the new edge that are not written.
+pub fn wrong_cut_cells() -> Vec<Mutant> {
+    vec![
         after(
             "uv cells of a new seam not written",
             |answer, before, call| {
@@ -475,13 +518,5 @@ pub fn wrong_cut_rows() -> Vec<Mutant> {
                 answer
             },
         ),
-        after("NaN made quiet past the result", |answer, _, call| {
-            for cell in call.pass.vertex_floats.iter_mut().filter(|_| answer == 0) {
-                if f64::from_bits(*cell).is_nan() {
-                    *cell |= 1 << 51;
-                }
-            }
-            answer
-        }),
     ]
 }

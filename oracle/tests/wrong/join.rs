@@ -8,14 +8,23 @@ use oracle::shell::EDGE_NUMBERS;
 /// All wrong joins.
 pub fn lists() -> Vec<Vec<Mutant>> {
     vec![
-        wrong_open_wires(),
+        wrong_changes(),
+        wrong_turns(),
+        wrong_holders(),
         wrong_places(),
         wrong_new_wires(),
+        wrong_parts(),
         wrong_neighbours(),
+        wrong_empty_wires(),
+        wrong_order(),
         wrong_answers(),
         wrong_join_bounds(),
-        wrong_join_sight(),
+        wrong_join_counts(),
+        wrong_join_vertices(),
+        wrong_join_uses(),
+        wrong_join_rows(),
         wrong_join_writes(),
+        wrong_join_told(),
         wrong_join_ends(),
     ]
 }
@@ -34,8 +43,8 @@ fn turned(wire: &[u32], place: usize) -> Vec<u32> {
     wire
 }
 
-/// Open wires that are found, exchanged and turned wrongly.
-pub fn wrong_open_wires() -> Vec<Mutant> {
+/// Open wires that change places wrongly.
+pub fn wrong_changes() -> Vec<Mutant> {
     vec![
         step("i and index put right", |r| {
             r.join.change = |i, _| i != 0;
@@ -45,14 +54,24 @@ pub fn wrong_open_wires() -> Vec<Mutant> {
         step("places changed for i or index", |r| {
             r.join.change = |i, index| i != 0 || index != 0
         }),
-        step("the first turned by index", |r| {
-            r.join.turns = |_, index, j| [index, j];
-            r.join.turn = turned;
-        }),
         step("places never changed", |r| r.join.change = |_, _| false),
         step("places always changed", |r| r.join.change = |_, _| true),
         step("places changed only for index 1", |r| {
             r.join.change = |_, index| index == 1
+        }),
+        step("v0 and v1 exchanged", |r| {
+            r.join.vertices = |v0, v1| [v1, v0]
+        }),
+        step("v0 for v1", |r| r.join.vertices = |v0, _| [v0, v0]),
+    ]
+}
+
+/// Open wires that are turned wrongly.
+pub fn wrong_turns() -> Vec<Mutant> {
+    vec![
+        step("the first turned by index", |r| {
+            r.join.turns = |_, index, j| [index, j];
+            r.join.turn = turned;
         }),
         step("the first not turned", |r| r.join.turns = |_, _, j| [0, j]),
         step("the first always turned by one", |r| {
@@ -64,6 +83,12 @@ pub fn wrong_open_wires() -> Vec<Mutant> {
             r.join.turn = turned;
         }),
         step("both turned by i", |r| r.join.turns = |i, _, _| [i, i]),
+    ]
+}
+
+/// The wrong open wire is taken for the one with v0.
+pub fn wrong_holders() -> Vec<Mutant> {
+    vec![
         step("the second open wire looked at first", |r| {
             r.join.holder = |[first, second]| match second {
                 Some(index) => Some((1, index)),
@@ -80,10 +105,6 @@ pub fn wrong_open_wires() -> Vec<Mutant> {
                 found.min_by_key(|&(_, index)| index)
             }
         }),
-        step("v0 and v1 exchanged", |r| {
-            r.join.vertices = |v0, v1| [v1, v0]
-        }),
-        step("v0 for v1", |r| r.join.vertices = |v0, _| [v0, v0]),
     ]
 }
 
@@ -120,7 +141,7 @@ pub fn wrong_places() -> Vec<Mutant> {
     ]
 }
 
-/// New wires that are taken and put together wrongly.
+/// New wires that are taken wrongly.
 pub fn wrong_new_wires() -> Vec<Mutant> {
     vec![
         step("the last new wire with v0", |r| {
@@ -156,6 +177,12 @@ pub fn wrong_new_wires() -> Vec<Mutant> {
                 found.min_by_key(|&(_, place)| place)
             }
         }),
+    ]
+}
+
+/// Parts of the joined wire that are put together wrongly.
+pub fn wrong_parts() -> Vec<Mutant> {
+    vec![
         step("the new wire not turned", |r| {
             r.join.taken = |places| {
                 let wire = places.iter().position(Option::is_some)?;
@@ -226,8 +253,8 @@ fn needed(lengths: &[u32], call: &Join) -> usize {
     new + call.first_count + call.second_count
 }
 
-/// Refusals in the wrong order, and empty wires that pass.
-pub fn wrong_answers() -> Vec<Mutant> {
+/// Empty open wires that are taken wrongly.
+pub fn wrong_empty_wires() -> Vec<Mutant> {
     vec![
         step("15 only where both are empty", |r| {
             r.join.empty = |first, second| first == 0 && second == 0;
@@ -247,6 +274,12 @@ pub fn wrong_answers() -> Vec<Mutant> {
         step("15 for a wire of one use", |r| {
             r.join.empty = |first, second| first < 2 || second < 2
         }),
+    ]
+}
+
+/// Answers in the wrong order.
+pub fn wrong_order() -> Vec<Mutant> {
+    vec![
         after("15 before 5", |answer, _, call| {
             match (answer, call.first_count.min(call.second_count)) {
                 (5, 0) => 15,
@@ -281,6 +314,12 @@ pub fn wrong_answers() -> Vec<Mutant> {
             6 => -1,
             _ => answer,
         }),
+    ]
+}
+
+/// Room that is asked for wrongly, and calls that are not read.
+pub fn wrong_answers() -> Vec<Mutant> {
+    vec![
         step("a spare use is asked for", |r| {
             r.join.fits = |call, uses| uses <= 1024 && uses < call.uses.len()
         }),
@@ -316,7 +355,7 @@ fn without_1(call: &Join, passes: bool) -> Vec<i32> {
     found
 }
 
-/// Counts that are looked at wrongly.
+/// Bounds that are wrong.
 pub fn wrong_join_bounds() -> Vec<Mutant> {
     vec![
         step("62 new wires are too many", |r| {
@@ -340,6 +379,12 @@ pub fn wrong_join_bounds() -> Vec<Mutant> {
                 without_1(call, open == Some(1023) && call.wires == 1)
             }
         }),
+    ]
+}
+
+/// Counts that are looked at wrongly.
+pub fn wrong_join_counts() -> Vec<Mutant> {
+    vec![
         after("4097 vertices pass", |answer, _, call| {
             match (answer, call.rows.vertices) {
                 (1, 4097) => -1,
@@ -371,8 +416,8 @@ pub fn wrong_join_bounds() -> Vec<Mutant> {
     ]
 }
 
-/// Cells that are looked at wrongly.
-pub fn wrong_join_sight() -> Vec<Mutant> {
+/// Causes that are chosen wrongly, and vertices that are not looked at.
+pub fn wrong_join_vertices() -> Vec<Mutant> {
     vec![
         step("highest cause wins", |r| {
             r.tables.choose = |causes| causes.iter().max().copied()
@@ -398,6 +443,12 @@ pub fn wrong_join_sight() -> Vec<Mutant> {
             let worst = call.v0.max(call.v1) as usize;
             answer + i32::from(answer == 2 && worst >= call.rows.vertices)
         }),
+    ]
+}
+
+/// Uses that are looked at wrongly.
+pub fn wrong_join_uses() -> Vec<Mutant> {
+    vec![
         after("new uses not looked at", |answer, _, call| {
             let beyond = |number: &u32| *number as usize / 2 >= call.rows.edges;
             let open = [call.first, call.second].concat();
@@ -429,6 +480,12 @@ pub fn wrong_join_sight() -> Vec<Mutant> {
                 found
             }
         }),
+    ]
+}
+
+/// Edge rows that are looked at wrongly.
+pub fn wrong_join_rows() -> Vec<Mutant> {
+    vec![
         step("floats are not looked at", |r| {
             r.tables.join_causes = |call| {
                 let mut found = join_causes(call);
@@ -462,7 +519,7 @@ pub fn wrong_join_sight() -> Vec<Mutant> {
     ]
 }
 
-/// Writing too much, too little or too early.
+/// Writing where nothing may be written.
 pub fn wrong_join_writes() -> Vec<Mutant> {
     vec![
         after("uses written before none", |answer, _, call| {
@@ -501,6 +558,12 @@ pub fn wrong_join_writes() -> Vec<Mutant> {
             }
             answer
         }),
+    ]
+}
+
+/// Counts and lengths of a result that are wrong.
+pub fn wrong_join_told() -> Vec<Mutant> {
+    vec![
         after("uses of the longest wire told", |answer, _, call| {
             if answer == 0 {
                 let lengths = call.lengths[..call.wires].iter();

@@ -23,6 +23,7 @@ pub fn cases() -> Vec<Case<CutEdge>> {
         numbers(),
         cuts(),
         several(),
+        several_spoilt(),
         room(),
         lowest(),
         of_the_pass(),
@@ -398,47 +399,45 @@ fn cuts() -> Vec<Case<CutEdge>> {
     ]
 }
 
+/// The sample with cuts at these parameters and a change.
+fn cut_at(name: &'static str, number: i32, ts: &[f64], change: fn(&mut CutEdge)) -> Case<CutEdge> {
+    no(name, number, |c| {
+        let cut = |&t: &f64| [t, 1.0, 2.0, 3.0].map(f64::to_bits);
+        c.cuts = ts.iter().flat_map(cut).collect();
+        c.cut_count = ts.len();
+        change(c);
+    })
+}
+
 /// Two and more cuts.
 fn several() -> Vec<Case<CutEdge>> {
-    let several = |name, number, ts: &[f64], change: fn(&mut CutEdge)| {
-        no(name, number, |c| {
-            let cut = |&t: &f64| [t, 1.0, 2.0, 3.0].map(f64::to_bits);
-            c.cuts = ts.iter().flat_map(cut).collect();
-            c.cut_count = ts.len();
-            change(c);
-        })
-    };
+    let same: fn(&mut CutEdge) = |_| {};
+    let short: fn(&mut CutEdge) = |c| c.lent.shorten(needed([3, 3, 4], 3));
     vec![
-        several("two cuts", 14, &[0.25, 0.5], |_| {}),
-        several("two cuts in falling order", 14, &[0.5, 0.25], |_| {}),
-        several("the same cut twice", 14, &[0.5, 0.5], |_| {}),
-        several("three cuts", 14, &[0.25, 0.5, 0.75], |_| {}),
-        several("a hundred cuts", 14, &[0.5; 100], |_| {}),
-        several("two cuts at t0 and t1", 14, &[0.0, 1.0], |_| {}),
-        several("two cuts and no room", 14, &[0.25, 0.5], |c| {
-            c.lent.shorten(needed([3, 3, 4], 3));
-        }),
-        several("two cuts, x of the second NaN", 4, &[0.25, 0.5], |c| {
-            c.cuts[5] = f64::NAN.to_bits();
-        }),
-        several(
-            "two cuts, t of the second NaN",
-            4,
-            &[0.25, f64::NAN],
-            |_| {},
-        ),
-        several("two cuts, the first NaN", 4, &[f64::NAN, 0.5], |_| {}),
-        several("two cuts, the second outside", 5, &[0.25, 1.5], |_| {}),
-        several("two cuts, the first outside", 5, &[-0.25, 0.5], |_| {}),
-        several(
-            "two cuts, one NaN, one outside",
-            4,
-            &[1.5, f64::NAN],
-            |_| {},
-        ),
-        several("two cuts of an edge at the count", 3, &[0.25, 0.5], |c| {
-            c.edge = 3;
-        }),
+        cut_at("two cuts", 14, &[0.25, 0.5], same),
+        cut_at("two cuts in falling order", 14, &[0.5, 0.25], same),
+        cut_at("the same cut twice", 14, &[0.5, 0.5], same),
+        cut_at("three cuts", 14, &[0.25, 0.5, 0.75], same),
+        cut_at("a hundred cuts", 14, &[0.5; 100], same),
+        cut_at("two cuts at t0 and t1", 14, &[0.0, 1.0], same),
+        cut_at("two cuts and no room", 14, &[0.25, 0.5], short),
+    ]
+}
+
+/// Two cuts, one of which may not be made.
+fn several_spoilt() -> Vec<Case<CutEdge>> {
+    let same: fn(&mut CutEdge) = |_| {};
+    let nan = f64::NAN;
+    let x_nan: fn(&mut CutEdge) = |c| c.cuts[5] = f64::NAN.to_bits();
+    let missing: fn(&mut CutEdge) = |c| c.edge = 3;
+    vec![
+        cut_at("two cuts, x of the second NaN", 4, &[0.25, 0.5], x_nan),
+        cut_at("two cuts, t of the second NaN", 4, &[0.25, nan], same),
+        cut_at("two cuts, the first NaN", 4, &[nan, 0.5], same),
+        cut_at("two cuts, the second outside", 5, &[0.25, 1.5], same),
+        cut_at("two cuts, the first outside", 5, &[-0.25, 0.5], same),
+        cut_at("two cuts, one NaN, one outside", 4, &[1.5, nan], same),
+        cut_at("two cuts of no edge", 3, &[0.25, 0.5], missing),
     ]
 }
 

@@ -11,6 +11,8 @@ use crate::shell::Tables;
 pub fn cases() -> Vec<Case<JoinWires>> {
     [
         results(),
+        turns(),
+        places(),
         new_wires(),
         vec![cell_by_cell()],
         nones(),
@@ -84,6 +86,27 @@ fn results() -> Vec<Case<JoinWires>> {
     vec![
         gives("K15", open, &["0+ 0-"], [0, 2], &[K15]),
         gives("the new wire is turned", open, &["0- 0+"], [0, 2], &[K15]),
+        gives(
+            "one use each",
+            ["1+", "1-"],
+            &["2- 2+"],
+            [0, 1],
+            &["2+ 1+ 2- 1-"],
+        ),
+        gives(
+            "self loops",
+            ["5+", "5-"],
+            &["5- 5+"],
+            [3, 3],
+            &["5+ 5- 5+ 5-"],
+        ),
+    ]
+}
+
+/// Open wires that change places or are turned.
+fn turns() -> Vec<Case<JoinWires>> {
+    let open = ["1+ 2+", "3+ 4+"];
+    vec![
         // i = 0, index = 1: the wires change places, the first is not turned.
         gives(
             "the open wires change places",
@@ -115,6 +138,12 @@ fn results() -> Vec<Case<JoinWires>> {
             [3, 1],
             &["2+ 4+ 3+ 3- 2+ 1+"],
         ),
+    ]
+}
+
+/// Vertices that stand far behind or in several places.
+fn places() -> Vec<Case<JoinWires>> {
+    vec![
         // i = 0, index = 2: the place of v0 does not matter further.
         gives(
             "v0 at the third place",
@@ -145,20 +174,6 @@ fn results() -> Vec<Case<JoinWires>> {
             &["0+ 3+"],
             [0, 2],
             &["0- 0+ 3+ 1+ 3+ 0- 4+"],
-        ),
-        gives(
-            "one use each",
-            ["1+", "1-"],
-            &["2- 2+"],
-            [0, 1],
-            &["2+ 1+ 2- 1-"],
-        ),
-        gives(
-            "self loops",
-            ["5+", "5-"],
-            &["5- 5+"],
-            [3, 3],
-            &["5+ 5- 5+ 5-"],
         ),
     ]
 }

@@ -50,10 +50,11 @@ pub fn divisor<C>(
     find_non_simple_wire_divisor(wires, edges, vertices)
 }
 
-/// One cut of an edge, and then every wire mended, as
-/// `take_vertices_to_intersections` does both. That caller leaves an edge
-/// without intersections alone, so an empty list never reaches the cut, which
-/// would panic on it; and it mends the wires of all faces.
+/// One cut of an edge, and then every wire mended. Both are done by
+/// `take_vertices_to_intersections`, for each use in the wires of one face:
+/// where the list of intersections is empty it returns before the cut, which
+/// would panic on such a list, and mends nothing. After all uses of the face
+/// are gone through, the wires of all faces are mended, cut by cut.
 pub fn cut<C>(
     index: usize,
     cut: (f64, Point3),
