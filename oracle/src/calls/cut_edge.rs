@@ -11,7 +11,7 @@ use crate::model::cut::{Cuts, CUT};
 use crate::port::{Cut, Port};
 use crate::random::Random;
 use crate::records::Shell;
-use crate::shell::{float_poison, needed, Lent, NAMES};
+use crate::shell::{float_poison, needed, Lent, EDGE_FLOATS, NAMES};
 use crate::{describe, small};
 use std::fmt::Write as _;
 
@@ -171,7 +171,10 @@ impl CutEdge {
     /// Moves the first cut just out of the edge's range, where there is one.
     fn move_past_range(&mut self, random: &mut Random) {
         let tables = &self.lent.tables;
-        let floats = tables.edge_floats.chunks_exact(6).nth(self.edge as usize);
+        let floats = tables
+            .edge_floats
+            .chunks_exact(EDGE_FLOATS)
+            .nth(self.edge as usize);
         if let (Some(floats), Some(t)) = (floats, self.cuts.first_mut()) {
             let [t0, t1] = [4, 5].map(|cell| f64::from_bits(floats[cell]));
             *t = random.pick(&[t0.next_down(), t1.next_up()]).to_bits();

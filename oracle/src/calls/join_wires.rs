@@ -15,7 +15,7 @@ use crate::model::search::Stretches;
 use crate::model::{MOST_EDGES, MOST_USES, MOST_VERTICES};
 use crate::port::{Join, Port, Rows};
 use crate::random::Random;
-use crate::records::{notation, Edge};
+use crate::records::Edge;
 use crate::shell::{float_poison, numbers_poison, Lent, Tables, NAMES};
 
 /// What a call is lent. The tables have a count of vertices, but no vertex
@@ -126,16 +126,12 @@ impl Input for JoinWires {
     }
 
     fn describe(&self) -> String {
-        let open = |uses: &[u32], count: usize| {
-            let uses_below = notation(&uses[..count.min(uses.len())]);
-            format!("{count} of {}: {uses_below}", uses.len())
-        };
         format!(
             "from {} to {}\n  first, {}\n  second, {}\n  {}",
             self.v0,
             self.v1,
-            open(&self.first, self.first_count),
-            open(&self.second, self.second_count),
+            describe::uses(&self.first, self.first_count),
+            describe::uses(&self.second, self.second_count),
             describe::lent(&self.new)
         )
     }

@@ -1,6 +1,6 @@
 //! The plain cut of an edge.
 
-use super::pass::{fits, mend, write, Mended};
+use super::pass::{fits, mend, mended_wires, write, Mended};
 use super::tables::{edge_rows, sized};
 use super::Reference;
 use crate::port::{Cut, Pass};
@@ -132,7 +132,7 @@ impl Steps {
             edges.push(added);
         }
         let added = (!vertices.is_empty()).then_some(new);
-        let (uses, lengths) = self.mended_wires(call, added);
+        let (uses, lengths) = self.wires(call, added);
         Mended {
             vertices,
             edges,
@@ -141,24 +141,19 @@ impl Steps {
         }
     }
 
-    /// The uses and lengths of all wires, with the new edge put in.
-    fn mended_wires(&self, call: &Cut, added: Option<u32>) -> (Vec<u32>, Vec<u32>) {
-        let (mut uses, mut lengths, mut place) = (Vec::new(), Vec::new(), 0);
-        let all = &call.pass.lengths[..call.pass.wires];
-        for (wire, &length) in all.iter().enumerate() {
-            let (before, mut mended) = (uses.len(), 0);
-            for &number in &call.pass.uses[place..place + length as usize] {
-                match added {
-                    Some(new) if number / 2 == call.edge && (self.mends)(wire, mended) => {
-                        uses.extend((self.mend)(number, new));
-                        mended += 1;
-                    }
-                    _ => uses.push(number),
-                }
+    /// The uses and lengths of all wires, with the new edge put in if there
+    /// is one.
+    fn wires(&self, call: &Cut, added: Option<u32>) -> (Vec<u32>, Vec<u32>) {
+        let (mut last, mut mended) = (0, 0);
+        mended_wires(&call.pass, |wire, number| {
+            if wire != last {
+                (last, mended) = (wire, 0);
             }
-            place += length as usize;
-            lengths.push((uses.len() - before) as u32);
-        }
-        (uses, lengths)
+            let new = added.filter(|_| number / 2 == call.edge)?;
+            (self.mends)(wire, mended).then(|| {
+                mended += 1;
+                (self.mend)(number, new)
+            })
+        })
     }
 }

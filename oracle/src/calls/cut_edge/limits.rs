@@ -4,7 +4,7 @@
 use super::{CutEdge, CUT};
 use crate::compare::{Case, Expected};
 use crate::limits::ways::{
-    ample, edge, edge_float, edge_number, held, sample, span, vertex_number,
+    ample, bits, edge, edge_float, edge_number, held, sample, span, vertex_number,
 };
 use crate::limits::{self, ways};
 use crate::random::Random;
@@ -163,11 +163,6 @@ fn the_last_edge() -> Case<CutEdge> {
         &["0+ 3- 2- 1+ 2+ 3+", "1- 0-"],
     );
     done("the last edge", &before, (2, [t, x, y, z]), &after)
-}
-
-/// The bits of floats.
-fn bits(floats: &[f64]) -> Vec<u64> {
-    floats.iter().map(|float| float.to_bits()).collect()
 }
 
 /// A cut with each cell written out, in buffers of just the result's length.

@@ -5,7 +5,7 @@ use super::JoinWires;
 use crate::calls::tables::{edge_table, sample_edges, spans, tables, POINTS, SPOILS};
 use crate::compare::{Case, NONE};
 use crate::records::wire;
-use crate::shell::Tables;
+use crate::shell::{Tables, EDGE_FLOATS};
 
 /// All cases.
 pub fn cases() -> Vec<Case<JoinWires>> {
@@ -449,7 +449,7 @@ fn empty_open_wires() -> Vec<Case<JoinWires>> {
 
 /// Sets a float cell of an edge.
 fn edge_float(join: &mut JoinWires, row: usize, cell: usize, value: f64) {
-    join.new.tables.edge_floats[6 * row + cell] = value.to_bits();
+    join.new.tables.edge_floats[row * EDGE_FLOATS + cell] = value.to_bits();
 }
 
 /// Two causes at once: the lower number wins, then "none", and 6 comes last.
