@@ -14,7 +14,7 @@ slice-aggregate-mark-cut c = search needs
 mark-cut-requires : tie.Need-mark-cut-requires
 mark-cut-requires c κs =
     let A = accepted _ _ _ _ _ _ _ _ _ (c .before .before .before .before .before .before .before .pre .0) in
-    (omega (arith, A .edges .below, c .before .before .before .before .before .before .before .pre .1), A .edges .below)
+    (omega (arith, A .edges .below, c .before .before .before .before .before .before .before .pre .1), omega (arith, A .vertices .below, A .edges .below, A .wires .below))
 
 array-share-prefix-added : tie.Need-array-share-prefix-added
 array-share-prefix-added c =
