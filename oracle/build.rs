@@ -6,13 +6,15 @@ use std::fs;
 use std::path::{Path, PathBuf};
 
 /// The calls that an archive may have or not have yet.
-const LATER: [&str; 6] = [
+const LATER: [&str; 8] = [
     "get_mindiff",
     "nearest_copy",
     "boundary_type",
     "sort_wires",
     "nearest_correction",
     "find_non_simple_wire_divisor",
+    "cut_edge_by_intersections",
+    "connect_open_boundaries",
 ];
 
 fn main() {

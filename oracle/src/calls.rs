@@ -2,8 +2,10 @@
 //! to an input, and the families of inputs that are gone through.
 
 pub mod boundary_type;
+pub mod cut_edge;
 pub mod find_divisor;
 pub mod get_mindiff;
+pub mod join_wires;
 pub mod nearest_copy;
 pub mod nearest_correction;
 pub mod numbers;

@@ -57,6 +57,12 @@ fn vertex(numbers: &[u32], floats: &[u64]) -> String {
     }
 }
 
+/// Uses below a count, and of how many cells.
+pub fn uses(uses: &[u32], count: usize) -> String {
+    let below = notation(&uses[..count.min(uses.len())]);
+    format!("{count} of {}: {below}", uses.len())
+}
+
 /// Floats, by value and by bits.
 pub fn floats(names: &[&str], bits: &[u64]) -> String {
     let word = |(name, &bits): (&&str, &u64)| {

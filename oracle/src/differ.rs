@@ -1,7 +1,9 @@
 //! The differential run: groups of inputs for each call, every one of them
 //! held against the Rust.
 
+use crate::calls::cut_edge::CutEdge;
 use crate::calls::find_divisor::FindDivisor;
+use crate::calls::join_wires::JoinWires;
 use crate::calls::nearest_correction::NearestEnds;
 use crate::calls::sort_wires::SortWires;
 use crate::calls::Families;
@@ -72,7 +74,7 @@ const fn runner<I: Families>() -> Runner {
 }
 
 /// All calls, in the order in which they are run.
-pub const CALLS: [Runner; 7] = [
+pub const CALLS: [Runner; 9] = [
     runner::<Lent>(),
     runner::<Unwrap>(),
     runner::<NearestCopy>(),
@@ -80,6 +82,8 @@ pub const CALLS: [Runner; 7] = [
     runner::<SortWires>(),
     runner::<NearestEnds>(),
     runner::<FindDivisor>(),
+    runner::<CutEdge>(),
+    runner::<JoinWires>(),
 ];
 
 /// Runs one group of one call.

@@ -136,6 +136,41 @@ pub fn find_divisor(shell: &records::Shell) -> Result<Option<[u32; 2]>, PastEnd>
 #[derive(Clone, Copy, Debug, PartialEq, Eq)]
 pub struct PastEnd;
 
+/// The Rust's cut of an edge at a parameter, with its point, and the mending
+/// of all wires.
+pub fn cut(shell: &records::Shell, edge: u32, t: f64, point: [f64; 3]) -> records::Shell {
+    let [x, y, z] = point;
+    let cut = (t, Point3::new(x, y, z));
+    let before = stand_ins(&shell.vertices);
+    let (mut points, mut edges) = (before.clone(), to_edges(&shell.edges));
+    let mut wires: Vec<Wire> = shell.wires.iter().map(|wire| to_wire(wire)).collect();
+    split_closed_faces::ways::cut(edge as usize, cut, &mut edges, &mut points, &mut wires);
+    let added = points.split_off(before.len());
+    assert!(points == before, "vertices are only added");
+    let given = |point: Point3| records::Vertex::Given(point.x, point.y, point.z);
+    let mut vertices = shell.vertices.clone();
+    vertices.extend(added.into_iter().map(given));
+    records::Shell {
+        vertices,
+        edges: edges.iter().map(from_rust).collect(),
+        wires: wires.iter().map(|wire| from_wire(wire)).collect(),
+    }
+}
+
+/// The Rust's `connect_open_boundaries` over two open wires and the new ones.
+pub fn join(
+    edges: &[records::Edge],
+    open: [&[u32]; 2],
+    new: &[Vec<u32>],
+    [v0, v1]: [u32; 2],
+) -> Option<Vec<Vec<u32>>> {
+    let new = new.iter().map(|wire| to_wire(wire)).collect();
+    let (edges, open) = (to_edges(edges), open.map(to_wire).to_vec());
+    let ends = (v0 as usize, v1 as usize);
+    let wires = split_closed_faces::ways::joined(new, ends, &edges, open)?;
+    Some(wires.iter().map(|wire| from_wire(wire)).collect())
+}
+
 /// A point of the parameter plane.
 fn point2([u, v]: [f64; 2]) -> Point2 {
     Point2::new(u, v)
@@ -148,6 +183,13 @@ fn points(vertices: &[records::Vertex]) -> Vec<Point3> {
         records::Vertex::Pending(..) => panic!("a pending vertex has no point"),
     };
     vertices.iter().map(point).collect()
+}
+
+/// A point of its own for each vertex, given or pending: the cut only counts
+/// the vertices and adds to them.
+fn stand_ins(vertices: &[records::Vertex]) -> Vec<Point3> {
+    let point = |row: usize| Point3::new(row as f64, 0.5, -1.0);
+    (0..vertices.len()).map(point).collect()
 }
 
 /// Edges as the Rust holds them.
@@ -186,6 +228,15 @@ fn to_wire(uses: &[u32]) -> Wire {
     uses.iter().map(to_use).collect()
 }
 
+/// A wire as it is lent.
+fn from_wire(wire: &[EdgeIndex]) -> Vec<u32> {
+    let to_number = |edge_use: &EdgeIndex| {
+        assert!(edge_use.index <= u32::MAX as usize / 2, "no use number");
+        2 * edge_use.index as u32 + u32::from(!edge_use.orientation)
+    };
+    wire.iter().map(to_number).collect()
+}
+
 /// The wires as the Rust holds them: wire i stands in face i modulo `faces`.
 fn deal(wires: &[Vec<u32>], faces: usize) -> Vec<Face<()>> {
     let of_face = |face: usize| wires.iter().skip(face).step_by(faces);
@@ -199,12 +250,6 @@ fn deal(wires: &[Vec<u32>], faces: usize) -> Vec<Face<()>> {
 
 /// The wires of all faces, in the order in which they were dealt.
 fn gather(faces: &[Face<()>], wires: usize) -> Vec<Vec<u32>> {
-    let to_number = |edge_use: &EdgeIndex| {
-        assert!(edge_use.index <= u32::MAX as usize / 2, "no use number");
-        2 * edge_use.index as u32 + u32::from(!edge_use.orientation)
-    };
-    let to_wire = |i: usize| &faces[i % faces.len()].boundaries[i / faces.len()];
-    (0..wires)
-        .map(|i| to_wire(i).iter().map(to_number).collect())
-        .collect()
+    let wire = |i: usize| &faces[i % faces.len()].boundaries[i / faces.len()];
+    (0..wires).map(|i| from_wire(wire(i))).collect()
 }

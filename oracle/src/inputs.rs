@@ -169,16 +169,21 @@ pub fn float(random: &mut Random) -> f64 {
     }
 }
 
-/// The shell in buffers that are ample, just long enough for the input or the
-/// result, or one cell too short.
+/// The shell in buffers for the closed-edge pass.
 pub fn lend(random: &mut Random, shell: &Shell) -> Lent {
-    let wires = shell.wires.len();
     let closed = |edge: &Edge| edge.front == edge.back;
     let more = shell.edges.iter().filter(|edge| closed(edge)).count();
     let used = shell.wires.iter().flatten();
     let doubled = used.filter(|&&number| closed(&shell.edges[number as usize / 2]));
     let [vertices, edges, uses] = shell.counts();
     let result = [vertices + more, edges + more, uses + doubled.count()];
+    lend_for(random, shell, result)
+}
+
+/// The shell in buffers that are ample, just long enough for the input or for
+/// a result of such counts, or one cell too short.
+pub fn lend_for(random: &mut Random, shell: &Shell, result: [usize; 3]) -> Lent {
+    let wires = shell.wires.len();
     let mut sizes = match random.below(8) {
         0 => needed(shell.counts(), wires),
         1..=3 => needed(result, wires),

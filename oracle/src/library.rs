@@ -1,67 +1,128 @@
 //! The archive that was found when this crate was built, called through C.
 //! Calls that it does not have yet are known when this crate is built.
 
-use crate::port::{Nearest, NearestCopy, Pass, Port, Search, Sort, Unwrap, WireEnds};
+use crate::port::{Cut, Join, Nearest, NearestCopy, Pass, Port, Search, Sort, Unwrap, WireEnds};
 
 /// The archive.
 pub struct Library;
 
+/// Declares a call of the archive. Each slice is handed over as a pointer and
+/// the count of its cells; the plain arguments come behind all slices.
+macro_rules! declare {
+    ($name:ident($($slice:ident: $pointer:ty),*; $($plain:ident: $kind:ty),*)) => {
+        extern "C" {
+            fn $name($($slice: $pointer, _: usize,)* $($plain: $kind),*) -> i32;
+        }
+    };
+}
+
+/// Makes a call that was declared. Before each slice stands the method that
+/// gives its pointer: `as_ptr` where it is read, else `as_mut_ptr`.
+#[allow(unused_macros)]
+macro_rules! ask {
+    ($name:ident($($pointer:ident $slice:expr),*; $($plain:expr),*)) => {
+        unsafe { $name($($slice.$pointer().cast(), $slice.len(),)* $($plain),*) }
+    };
+}
+
+/// Makes a call whose first four slices are the tables, which it only reads,
+/// and whose first two plain arguments are their counts.
+#[allow(unused_macros)]
+macro_rules! ask_over {
+    ($rows:expr, $name:ident($($pointer:ident $slice:expr),*; $($plain:expr),*)) => {
+        ask!($name(
+            as_ptr $rows.vertex_numbers,
+            as_ptr $rows.vertex_floats,
+            as_ptr $rows.edge_numbers,
+            as_ptr $rows.edge_floats,
+            $($pointer $slice),*;
+            $rows.vertices,
+            $rows.edges,
+            $($plain),*
+        ))
+    };
+}
+
+/// Makes a call whose first six slices are those of the closed-edge pass,
+/// which it may write, and whose plain arguments begin with their counts and
+/// end with the pass's three out places.
+macro_rules! ask_over_pass {
+    ($pass:expr, $name:ident($($pointer:ident $slice:expr),*; $($plain:expr),*)) => {{
+        let [vertices_out, edges_out, uses_out] = $pass.out else {
+            panic!("three places for the counts");
+        };
+        ask!($name(
+            as_mut_ptr $pass.vertex_numbers,
+            as_mut_ptr $pass.vertex_floats,
+            as_mut_ptr $pass.edge_numbers,
+            as_mut_ptr $pass.edge_floats,
+            as_mut_ptr $pass.uses,
+            as_mut_ptr $pass.lengths
+            $(, $pointer $slice)*;
+            $pass.vertices,
+            $pass.edges,
+            $pass.wires,
+            $($plain,)*
+            vertices_out,
+            edges_out,
+            uses_out
+        ))
+    }};
+}
+
+declare!(kaugrenna_split_closed_edges(
+    vertex_numbers: *mut u32,
+    vertex_floats: *mut f64,
+    edge_numbers: *mut u32,
+    edge_floats: *mut f64,
+    uses: *mut u32,
+    lengths: *mut u32;
+    vertices: usize,
+    edges: usize,
+    wires: usize,
+    vertices_out: *mut usize,
+    edges_out: *mut usize,
+    uses_out: *mut usize
+));
+
+#[cfg(library_has = "get_mindiff")]
+declare!(kaugrenna_get_mindiff(
+    ;
+    u: f64,
+    u0: f64,
+    period_kind: u32,
+    period: f64,
+    u_out: *mut u64
+));
+
+#[cfg(library_has = "nearest_copy")]
+declare!(kaugrenna_nearest_copy(
+    ;
+    pu: f64,
+    pv: f64,
+    qu: f64,
+    qv: f64,
+    u_kind: u32,
+    u_period: f64,
+    v_kind: u32,
+    v_period: f64,
+    u_out: *mut u64,
+    v_out: *mut u64
+));
+
+#[cfg(library_has = "boundary_type")]
+declare!(kaugrenna_boundary_type(
+    ;
+    u0: f64,
+    v0: f64,
+    u1: f64,
+    v1: f64,
+    area: f64,
+    kind_out: *mut u32
+));
+
+#[cfg(library_has = "sort_wires")]
 extern "C" {
-    fn kaugrenna_split_closed_edges(
-        vertex_numbers: *mut u32,
-        vertex_numbers_len: usize,
-        vertex_floats: *mut f64,
-        vertex_floats_len: usize,
-        edge_numbers: *mut u32,
-        edge_numbers_len: usize,
-        edge_floats: *mut f64,
-        edge_floats_len: usize,
-        uses: *mut u32,
-        uses_len: usize,
-        lengths: *mut u32,
-        lengths_len: usize,
-        vertices: usize,
-        edges: usize,
-        wires: usize,
-        vertices_out: *mut usize,
-        edges_out: *mut usize,
-        uses_out: *mut usize,
-    ) -> i32;
-
-    #[cfg(library_has = "get_mindiff")]
-    fn kaugrenna_get_mindiff(
-        u: f64,
-        u0: f64,
-        period_kind: u32,
-        period: f64,
-        u_out: *mut f64,
-    ) -> i32;
-
-    #[cfg(library_has = "nearest_copy")]
-    fn kaugrenna_nearest_copy(
-        pu: f64,
-        pv: f64,
-        qu: f64,
-        qv: f64,
-        u_kind: u32,
-        u_period: f64,
-        v_kind: u32,
-        v_period: f64,
-        u_out: *mut f64,
-        v_out: *mut f64,
-    ) -> i32;
-
-    #[cfg(library_has = "boundary_type")]
-    fn kaugrenna_boundary_type(
-        u0: f64,
-        v0: f64,
-        u1: f64,
-        v1: f64,
-        area: f64,
-        kind_out: *mut u32,
-    ) -> i32;
-
-    #[cfg(library_has = "sort_wires")]
     fn kaugrenna_sort_wires(
         ends: *const f64,
         ends_len: usize,
@@ -72,51 +133,76 @@ extern "C" {
         closed_len: usize,
         closed_out: *mut usize,
     ) -> i32;
-
-    #[cfg(library_has = "nearest_correction")]
-    fn kaugrenna_nearest_correction(
-        vertex_numbers: *const u32,
-        vertex_numbers_len: usize,
-        vertex_floats: *const f64,
-        vertex_floats_len: usize,
-        edge_numbers: *const u32,
-        edge_numbers_len: usize,
-        edge_floats: *const f64,
-        edge_floats_len: usize,
-        first: *const u32,
-        first_len: usize,
-        second: *const u32,
-        second_len: usize,
-        vertices: usize,
-        edges: usize,
-        first_count: usize,
-        second_count: usize,
-        v0: u32,
-        v0_out: *mut u32,
-        v1_out: *mut u32,
-    ) -> i32;
-
-    #[cfg(library_has = "find_non_simple_wire_divisor")]
-    fn kaugrenna_find_non_simple_wire_divisor(
-        vertex_numbers: *const u32,
-        vertex_numbers_len: usize,
-        vertex_floats: *const f64,
-        vertex_floats_len: usize,
-        edge_numbers: *const u32,
-        edge_numbers_len: usize,
-        edge_floats: *const f64,
-        edge_floats_len: usize,
-        uses: *const u32,
-        uses_len: usize,
-        lengths: *const u32,
-        lengths_len: usize,
-        vertices: usize,
-        edges: usize,
-        wires: usize,
-        v0_out: *mut u32,
-        v1_out: *mut u32,
-    ) -> i32;
 }
+
+#[cfg(library_has = "nearest_correction")]
+declare!(kaugrenna_nearest_correction(
+    vertex_numbers: *const u32,
+    vertex_floats: *const f64,
+    edge_numbers: *const u32,
+    edge_floats: *const f64,
+    first: *const u32,
+    second: *const u32;
+    vertices: usize,
+    edges: usize,
+    first_count: usize,
+    second_count: usize,
+    v0: u32,
+    v0_out: *mut u32,
+    v1_out: *mut u32
+));
+
+#[cfg(library_has = "find_non_simple_wire_divisor")]
+declare!(kaugrenna_find_non_simple_wire_divisor(
+    vertex_numbers: *const u32,
+    vertex_floats: *const f64,
+    edge_numbers: *const u32,
+    edge_floats: *const f64,
+    uses: *const u32,
+    lengths: *const u32;
+    vertices: usize,
+    edges: usize,
+    wires: usize,
+    v0_out: *mut u32,
+    v1_out: *mut u32
+));
+
+#[cfg(library_has = "cut_edge_by_intersections")]
+declare!(kaugrenna_cut_edge_by_intersections(
+    vertex_numbers: *mut u32,
+    vertex_floats: *mut f64,
+    edge_numbers: *mut u32,
+    edge_floats: *mut f64,
+    uses: *mut u32,
+    lengths: *mut u32,
+    cuts: *const f64;
+    vertices: usize,
+    edges: usize,
+    wires: usize,
+    edge: u32,
+    cut_count: usize,
+    vertices_out: *mut usize,
+    edges_out: *mut usize,
+    uses_out: *mut usize
+));
+
+#[cfg(library_has = "connect_open_boundaries")]
+declare!(kaugrenna_connect_open_boundaries(
+    edge_numbers: *const u32,
+    edge_floats: *const f64,
+    first: *const u32,
+    second: *const u32,
+    uses: *mut u32,
+    lengths: *mut u32;
+    vertices: usize,
+    edges: usize,
+    first_count: usize,
+    second_count: usize,
+    wires: usize,
+    v0: u32,
+    v1: u32,
+    uses_out: *mut usize
+));
 
 /// What a call says that the archive does not have.
 #[allow(dead_code)]
@@ -137,43 +223,20 @@ impl Port for Library {
             "sort_wires" => cfg!(library_has = "sort_wires"),
             "nearest_correction" => cfg!(library_has = "nearest_correction"),
             "find_non_simple_wire_divisor" => cfg!(library_has = "find_non_simple_wire_divisor"),
+            "cut_edge_by_intersections" => cfg!(library_has = "cut_edge_by_intersections"),
+            "connect_open_boundaries" => cfg!(library_has = "connect_open_boundaries"),
             _ => name == "split_closed_edges",
         }
     }
 
     fn split_closed_edges(&self, call: Pass<'_>) -> i32 {
-        let [vertices_out, edges_out, uses_out] = call.out else {
-            panic!("three places for the counts");
-        };
-        unsafe {
-            kaugrenna_split_closed_edges(
-                call.vertex_numbers.as_mut_ptr(),
-                call.vertex_numbers.len(),
-                call.vertex_floats.as_mut_ptr().cast(),
-                call.vertex_floats.len(),
-                call.edge_numbers.as_mut_ptr(),
-                call.edge_numbers.len(),
-                call.edge_floats.as_mut_ptr().cast(),
-                call.edge_floats.len(),
-                call.uses.as_mut_ptr(),
-                call.uses.len(),
-                call.lengths.as_mut_ptr(),
-                call.lengths.len(),
-                call.vertices,
-                call.edges,
-                call.wires,
-                vertices_out,
-                edges_out,
-                uses_out,
-            )
-        }
+        ask_over_pass!(call, kaugrenna_split_closed_edges(;))
     }
 
     #[cfg(library_has = "get_mindiff")]
     fn get_mindiff(&self, call: Unwrap, out: &mut [u64]) -> i32 {
         let [u, u0, period] = [call.u, call.u0, call.period.size].map(f64::from_bits);
-        let u_out = (&mut out[0] as *mut u64).cast();
-        unsafe { kaugrenna_get_mindiff(u, u0, call.period.kind, period, u_out) }
+        unsafe { kaugrenna_get_mindiff(u, u0, call.period.kind, period, &mut out[0]) }
     }
 
     #[cfg(not(library_has = "get_mindiff"))]
@@ -185,26 +248,12 @@ impl Port for Library {
     fn nearest_copy(&self, call: NearestCopy, out: &mut [u64]) -> i32 {
         let [pu, pv] = call.p.map(f64::from_bits);
         let [qu, qv] = call.q.map(f64::from_bits);
-        let [u_kind, v_kind] = call.periods.map(|period| period.kind);
+        let [uk, vk] = call.periods.map(|period| period.kind);
         let [up, vp] = call.periods.map(|period| f64::from_bits(period.size));
-        let [u_out, v_out] = out else {
+        let [u, v] = out else {
             panic!("two places for a point");
         };
-        let (u_out, v_out) = (u_out as *mut u64, v_out as *mut u64);
-        unsafe {
-            kaugrenna_nearest_copy(
-                pu,
-                pv,
-                qu,
-                qv,
-                u_kind,
-                up,
-                v_kind,
-                vp,
-                u_out.cast(),
-                v_out.cast(),
-            )
-        }
+        unsafe { kaugrenna_nearest_copy(pu, pv, qu, qv, uk, up, vk, vp, u, v) }
     }
 
     #[cfg(not(library_has = "nearest_copy"))]
@@ -251,29 +300,15 @@ impl Port for Library {
         let [v0_out, v1_out] = call.out else {
             panic!("two places for vertices");
         };
-        unsafe {
-            kaugrenna_nearest_correction(
-                call.rows.vertex_numbers.as_ptr(),
-                call.rows.vertex_numbers.len(),
-                call.rows.vertex_floats.as_ptr().cast(),
-                call.rows.vertex_floats.len(),
-                call.rows.edge_numbers.as_ptr(),
-                call.rows.edge_numbers.len(),
-                call.rows.edge_floats.as_ptr().cast(),
-                call.rows.edge_floats.len(),
-                call.first.as_ptr(),
-                call.first.len(),
-                call.second.as_ptr(),
-                call.second.len(),
-                call.rows.vertices,
-                call.rows.edges,
-                call.first_count,
-                call.second_count,
-                call.v0,
-                v0_out,
-                v1_out,
-            )
-        }
+        ask_over!(call.rows, kaugrenna_nearest_correction(
+            as_ptr call.first,
+            as_ptr call.second;
+            call.first_count,
+            call.second_count,
+            call.v0,
+            v0_out,
+            v1_out
+        ))
     }
 
     #[cfg(not(library_has = "nearest_correction"))]
@@ -286,31 +321,56 @@ impl Port for Library {
         let [v0_out, v1_out] = call.out else {
             panic!("two places for vertices");
         };
-        unsafe {
-            kaugrenna_find_non_simple_wire_divisor(
-                call.rows.vertex_numbers.as_ptr(),
-                call.rows.vertex_numbers.len(),
-                call.rows.vertex_floats.as_ptr().cast(),
-                call.rows.vertex_floats.len(),
-                call.rows.edge_numbers.as_ptr(),
-                call.rows.edge_numbers.len(),
-                call.rows.edge_floats.as_ptr().cast(),
-                call.rows.edge_floats.len(),
-                call.wires.uses.as_ptr(),
-                call.wires.uses.len(),
-                call.wires.lengths.as_ptr(),
-                call.wires.lengths.len(),
-                call.rows.vertices,
-                call.rows.edges,
-                call.wires.wires,
-                v0_out,
-                v1_out,
-            )
-        }
+        ask_over!(call.rows, kaugrenna_find_non_simple_wire_divisor(
+            as_ptr call.wires.uses,
+            as_ptr call.wires.lengths;
+            call.wires.wires,
+            v0_out,
+            v1_out
+        ))
     }
 
     #[cfg(not(library_has = "find_non_simple_wire_divisor"))]
     fn find_non_simple_wire_divisor(&self, call: Search<'_>) -> i32 {
         missing("find_non_simple_wire_divisor")
+    }
+
+    #[cfg(library_has = "cut_edge_by_intersections")]
+    fn cut_edge_by_intersections(&self, call: Cut<'_>) -> i32 {
+        ask_over_pass!(call.pass, kaugrenna_cut_edge_by_intersections(
+            as_ptr call.cuts;
+            call.edge,
+            call.cut_count
+        ))
+    }
+
+    #[cfg(not(library_has = "cut_edge_by_intersections"))]
+    fn cut_edge_by_intersections(&self, call: Cut<'_>) -> i32 {
+        missing("cut_edge_by_intersections")
+    }
+
+    #[cfg(library_has = "connect_open_boundaries")]
+    fn connect_open_boundaries(&self, call: Join<'_>) -> i32 {
+        ask!(kaugrenna_connect_open_boundaries(
+            as_ptr call.rows.edge_numbers,
+            as_ptr call.rows.edge_floats,
+            as_ptr call.first,
+            as_ptr call.second,
+            as_mut_ptr call.uses,
+            as_mut_ptr call.lengths;
+            call.rows.vertices,
+            call.rows.edges,
+            call.first_count,
+            call.second_count,
+            call.wires,
+            call.v0,
+            call.v1,
+            &mut call.out[0]
+        ))
+    }
+
+    #[cfg(not(library_has = "connect_open_boundaries"))]
+    fn connect_open_boundaries(&self, call: Join<'_>) -> i32 {
+        missing("connect_open_boundaries")
     }
 }

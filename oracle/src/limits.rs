@@ -1,14 +1,14 @@
 //! Named inputs at the corners and bounds of the specification, each with its
 //! answer written out by hand.
 
-mod ways;
+pub mod ways;
 
 use crate::compare::{Case, Expected};
 use crate::random::Random;
 use crate::records::{Edge, Shell, Vertex};
 use crate::shell::{needed, Lent, Tables};
 use crate::shell::{EDGE_FLOATS, EDGE_NUMBERS, VERTEX_FLOATS, VERTEX_NUMBERS};
-use ways::{ample, done, edge, held, refused, sample, shell, span, spoiled, unharmed, words};
+use ways::{ample, bits, done, edge, held, refused, sample, shell, span, spoiled, unharmed, words};
 use ways::{edge_float, edge_number, vertex_float, vertex_number};
 
 /// All cases.
@@ -101,11 +101,6 @@ fn two_rings() -> Case<Lent> {
         &["4- 2- 1-", "0+ 3+ 1+ 2+ 4+"],
     );
     done("two closed edges", &before, &after)
-}
-
-/// The bits of floats.
-fn bits(floats: &[f64]) -> Vec<u64> {
-    floats.iter().map(|float| float.to_bits()).collect()
 }
 
 /// K1 with each cell written out, in buffers of just the result's length.

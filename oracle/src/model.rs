@@ -1,6 +1,8 @@
 //! The refusals, written down from the table of the specification and from
 //! nothing else: one function for each cause.
 
+pub mod cut;
+pub mod join;
 pub mod near;
 pub mod search;
 
@@ -47,9 +49,14 @@ pub fn refused(lent: &Lent) -> Option<i32> {
 /// 1: a count of a table is above its bound or above what was lent.
 fn tables_passed(tables: &Tables) -> bool {
     tables.vertices > MOST_VERTICES
-        || tables.edges > MOST_EDGES
         || tables.vertices * VERTEX_NUMBERS > tables.vertex_numbers.len()
         || tables.vertices * VERTEX_FLOATS > tables.vertex_floats.len()
+        || edges_passed(tables)
+}
+
+/// 1: the count of the edge table is above its bound or above what was lent.
+fn edges_passed(tables: &Tables) -> bool {
+    tables.edges > MOST_EDGES
         || tables.edges * EDGE_NUMBERS > tables.edge_numbers.len()
         || tables.edges * EDGE_FLOATS > tables.edge_floats.len()
 }
@@ -73,12 +80,16 @@ fn use_count(lent: &Lent) -> u128 {
 /// 1: the kind of an edge, of a vertex, or of a pending vertex's curve is
 /// none of 0 and 1. A given vertex has no curve kind.
 fn kind_unknown(tables: &Tables) -> bool {
-    let edge = |row: usize| edge_numbers(tables, row)[2] > 1;
     let vertex = |row: usize| {
         let numbers = vertex_numbers(tables, row);
         numbers[0] > 1 || (numbers[0] == 1 && numbers[1] > 1)
     };
-    (0..tables.edges).any(edge) || (0..tables.vertices).any(vertex)
+    edge_kind_unknown(tables) || (0..tables.vertices).any(vertex)
+}
+
+/// 1: the kind of an edge is none of 0 and 1.
+fn edge_kind_unknown(tables: &Tables) -> bool {
+    (0..tables.edges).any(|row| edge_numbers(tables, row)[2] > 1)
 }
 
 /// 2: a vertex number in the edge table is not below the vertex count.
@@ -101,10 +112,6 @@ fn unfit(float: f64) -> bool {
 
 /// 4: a float of a table is not a number or above 1.0e15 in size.
 fn float_unfit(tables: &Tables) -> bool {
-    let edge = |row: usize| {
-        let kind = edge_numbers(tables, row)[2];
-        curve_cells(kind).any(|cell| unfit(edge_float(tables, row, cell)))
-    };
     let vertex = |row: usize| {
         let numbers = vertex_numbers(tables, row);
         if numbers[0] == 0 {
@@ -113,17 +120,29 @@ fn float_unfit(tables: &Tables) -> bool {
         let mut cells = curve_cells(numbers[1]).chain([6]);
         cells.any(|cell| unfit(vertex_float(tables, row, cell)))
     };
-    (0..tables.edges).any(edge) || (0..tables.vertices).any(vertex)
+    edge_float_unfit(tables) || (0..tables.vertices).any(vertex)
+}
+
+/// 4: a float of an edge is not a number or above 1.0e15 in size.
+fn edge_float_unfit(tables: &Tables) -> bool {
+    (0..tables.edges).any(|row| {
+        let kind = edge_numbers(tables, row)[2];
+        curve_cells(kind).any(|cell| unfit(edge_float(tables, row, cell)))
+    })
 }
 
 /// 5: t0 is above t1, or a pending parameter is outside its curve's range.
 fn range_unfit(tables: &Tables) -> bool {
-    let edge = |row: usize| edge_float(tables, row, 4) > edge_float(tables, row, 5);
     let vertex = |row: usize| {
         let [t0, t1, t] = [4, 5, 6].map(|cell| vertex_float(tables, row, cell));
         vertex_numbers(tables, row)[0] == 1 && (t0 > t1 || t < t0 || t > t1)
     };
-    (0..tables.edges).any(edge) || (0..tables.vertices).any(vertex)
+    edge_range_unfit(tables) || (0..tables.vertices).any(vertex)
+}
+
+/// 5: t0 of an edge is above its t1.
+fn edge_range_unfit(tables: &Tables) -> bool {
+    (0..tables.edges).any(|row| edge_float(tables, row, 4) > edge_float(tables, row, 5))
 }
 
 /// 7: a vertex is pending.

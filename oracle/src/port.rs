@@ -187,6 +187,63 @@ pub struct Search<'a> {
     pub out: &'a mut [u32],
 }
 
+/// What one call of `cut_edge_by_intersections` is lent: what the closed-edge
+/// pass is lent, and rows of four floats t, x, y, z with the edge they cut.
+pub struct Cut<'a> {
+    pub pass: Pass<'a>,
+    pub cuts: &'a [u64],
+    pub edge: u32,
+    pub cut_count: usize,
+}
+
+impl Cut<'_> {
+    /// The same call, lent on for a while.
+    pub fn again(&mut self) -> Cut<'_> {
+        Cut {
+            pass: self.pass.again(),
+            ..*self
+        }
+    }
+}
+
+/// What one call of `connect_open_boundaries` is lent: the edge table (the
+/// vertex table stays with the host, so that its slices are empty here), the
+/// two open wires with their counts, and the new wires. `out` has one place.
+pub struct Join<'a> {
+    pub rows: Rows<'a>,
+    pub first: &'a [u32],
+    pub second: &'a [u32],
+    pub uses: &'a mut [u32],
+    pub lengths: &'a mut [u32],
+    pub first_count: usize,
+    pub second_count: usize,
+    pub wires: usize,
+    pub v0: u32,
+    pub v1: u32,
+    pub out: &'a mut [usize],
+}
+
+impl Join<'_> {
+    /// The same call, lent on for a while.
+    pub fn again(&mut self) -> Join<'_> {
+        Join {
+            uses: self.uses,
+            lengths: self.lengths,
+            out: self.out,
+            ..*self
+        }
+    }
+
+    /// The new wires, lent on to be read.
+    pub fn new_wires(&self) -> Wires<'_> {
+        Wires {
+            uses: self.uses,
+            lengths: self.lengths,
+            wires: self.wires,
+        }
+    }
+}
+
 /// An implementation that can be held against the Rust. Each call answers 0
 /// where its result is written, -1 for "none", else the refusal's number.
 pub trait Port {
@@ -202,4 +259,6 @@ pub trait Port {
     fn sort_wires(&self, call: Sort<'_>) -> i32;
     fn nearest_correction(&self, call: Nearest<'_>) -> i32;
     fn find_non_simple_wire_divisor(&self, call: Search<'_>) -> i32;
+    fn cut_edge_by_intersections(&self, call: Cut<'_>) -> i32;
+    fn connect_open_boundaries(&self, call: Join<'_>) -> i32;
 }

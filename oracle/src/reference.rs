@@ -2,12 +2,14 @@
 //! truth: it shows that a right port is found right, and, with one step
 //! replaced by a wrong one, that a wrong port is found wrong.
 
+pub mod cut;
+pub mod join;
 pub mod near;
 pub mod pass;
 pub mod search;
 pub mod tables;
 
-use crate::port::{Nearest, NearestCopy, Pass, Port, Search, Sort, Unwrap, WireEnds};
+use crate::port::{Cut, Join, Nearest, NearestCopy, Pass, Port, Search, Sort, Unwrap, WireEnds};
 
 /// The steps of the calls, each of which can be replaced.
 #[derive(Clone, Copy, Default)]
@@ -16,6 +18,8 @@ pub struct Reference {
     pub pass: pass::Steps,
     pub near: near::Steps,
     pub search: search::Steps,
+    pub cut: cut::Steps,
+    pub join: join::Steps,
 }
 
 impl Port for Reference {
@@ -45,5 +49,13 @@ impl Port for Reference {
 
     fn find_non_simple_wire_divisor(&self, call: Search<'_>) -> i32 {
         search::find_non_simple_wire_divisor(self, call)
+    }
+
+    fn cut_edge_by_intersections(&self, call: Cut<'_>) -> i32 {
+        cut::cut_edge_by_intersections(self, call)
+    }
+
+    fn connect_open_boundaries(&self, call: Join<'_>) -> i32 {
+        join::connect_open_boundaries(self, call)
     }
 }

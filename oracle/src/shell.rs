@@ -183,18 +183,22 @@ impl Lent {
 
     /// The records below the counts. Only for an input that is not refused.
     pub fn read(&self) -> Shell {
-        let mut rest = &self.uses[..];
-        let mut wires = Vec::new();
+        Shell {
+            vertices: self.tables.vertices(),
+            edges: self.tables.edges(),
+            wires: self.read_wires(),
+        }
+    }
+
+    /// The wires below the count. Only for an input that is not refused.
+    pub fn read_wires(&self) -> Vec<Vec<u32>> {
+        let (mut rest, mut wires) = (&self.uses[..], Vec::new());
         for &length in &self.lengths[..self.wires] {
             let (wire, behind) = rest.split_at(length as usize);
             wires.push(wire.to_vec());
             rest = behind;
         }
-        Shell {
-            vertices: self.tables.vertices(),
-            edges: self.tables.edges(),
-            wires,
-        }
+        wires
     }
 
     /// Writes the records over the rows and the wires over the uses and

@@ -1,6 +1,7 @@
 //! Every small shell: up to two vertices, two edges with all ends and kinds,
-//! two wires with up to three uses in all orders; each in buffers of just the
-//! result's length, and with each buffer in turn one cell shorter.
+//! two wires with up to three uses in all orders; for the closed-edge pass each
+//! in buffers of just the result's length, and with each buffer in turn one
+//! cell shorter.
 
 use crate::random::Random;
 use crate::records::{Curve, Edge, Shell, Vertex};
@@ -9,8 +10,15 @@ use crate::shell::{needed, Lent};
 /// Most uses in the two wires together.
 const MOST_USES: usize = 3;
 
-/// Shows every small input to the visitor, until it answers false.
+/// Shows every small input of the closed-edge pass to the visitor, until it
+/// answers false.
 pub fn each(visit: &mut dyn FnMut(&Lent) -> bool) {
+    each_shell(&mut |shell, turn| each_room(shell, turn, visit));
+}
+
+/// Shows every small shell to the visitor, with a number of its own, until it
+/// answers false.
+pub fn each_shell(visit: &mut dyn FnMut(&Shell, usize) -> bool) {
     let mut turn = 0;
     for (vertices, edges) in [(0, 0), (1, 0), (1, 1), (1, 2), (2, 0), (2, 1), (2, 2)] {
         let layouts = layouts();
@@ -25,7 +33,7 @@ pub fn each(visit: &mut dyn FnMut(&Lent) -> bool) {
                         wires,
                     };
                     turn += 1;
-                    if !each_room(&shell, turn, visit) {
+                    if !visit(&shell, turn) {
                         return;
                     }
                 }

@@ -19,7 +19,7 @@ use crate::shell::Lent;
 #[cfg(rust_at_hand)]
 mod make;
 #[cfg(rust_at_hand)]
-pub use make::make;
+pub use make::{make, QUOTAS};
 
 /// Most cells in a buffer that is stored.
 const MOST_CELLS: usize = 64;

@@ -1,7 +1,9 @@
 //! The named cases: each answer is written out by hand, and the plain
 //! implementation, the model and the Rust all give it.
 
+use oracle::calls::cut_edge::CutEdge;
 use oracle::calls::find_divisor::FindDivisor;
+use oracle::calls::join_wires::JoinWires;
 use oracle::calls::nearest_correction::NearestEnds;
 use oracle::calls::sort_wires::SortWires;
 use oracle::calls::Families;
@@ -110,5 +112,34 @@ fn find_divisor() {
         "an answer before 8",
         "8 before an answer",
         "7 before 8",
+    ]);
+}
+
+#[test]
+fn cut_edge() {
+    hold::<CutEdge>(&[
+        "a cut cell by cell",
+        "at t0",
+        "at t1",
+        "no cut, the edge at the count",
+        "two cuts, x of the second NaN",
+        "4096 vertices, two cuts",
+        "512 uses of the edge, just enough room",
+        "unused edge, t0 above t1",
+    ]);
+}
+
+#[test]
+fn join_wires() {
+    hold::<JoinWires>(&[
+        "K15",
+        "K16",
+        "K15 cell by cell",
+        "none before 6",
+        "15 before none",
+        "15 before 6",
+        "the last of 62 new wires",
+        "63 new wires",
+        "just enough room",
     ]);
 }

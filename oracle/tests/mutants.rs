@@ -9,7 +9,7 @@ use oracle::differ::{Group, Plan, Runner, CALLS};
 use oracle::port::Port;
 use oracle::reference::Reference;
 use oracle::shell::Lent;
-use wrong::{near, pass, search, Mutant};
+use wrong::{cut, join, lists, pass, Mutant};
 
 /// A run that is short enough for each mutant.
 const PLAN: Plan = Plan {
@@ -53,21 +53,13 @@ fn the_reference_does_not_differ() {
     }
 }
 
+/// The groups save the small one, which is long where nothing is found.
+const SHORT: [Group; 4] = [Group::Limits, Group::Random, Group::Damaged, Group::Noise];
+
 #[test]
 fn every_wrong_pass_is_found() {
-    let groups = [Group::Limits, Group::Random, Group::Damaged, Group::Noise];
-    let lists = vec![
-        pass::wrong_results(),
-        pass::wrong_vertices(),
-        pass::wrong_middles(),
-        pass::wrong_refusals(),
-        pass::wrong_bounds(),
-        pass::wrong_sight(),
-        pass::wrong_rows(),
-        pass::wrong_writes(),
-        pass::wrong_ends(),
-    ];
-    all_found("split_closed_edges", &groups, lists);
+    let name = "split_closed_edges";
+    all_found(name, &SHORT, lists(name));
 }
 
 #[test]
@@ -87,49 +79,64 @@ fn the_small_group_finds_every_wrong_result() {
 }
 
 #[test]
-fn every_wrong_unwrapping_is_found() {
-    let lists = vec![near::wrong_unwrapping(), near::wrong_numbers()];
-    all_found("get_mindiff", &Group::ALL, lists);
-}
-
-#[test]
-fn every_wrong_nearest_copy_is_found() {
-    let lists = vec![near::wrong_copies(), near::wrong_copying()];
-    all_found("nearest_copy", &Group::ALL, lists);
-}
-
-#[test]
-fn every_wrong_kind_of_wire_is_found() {
-    all_found("boundary_type", &Group::ALL, vec![near::wrong_kinds()]);
-}
-
-#[test]
-fn every_wrong_sorting_is_found() {
-    let lists = vec![near::wrong_sorting(), near::wrong_sorting_calls()];
-    all_found("sort_wires", &Group::ALL, lists);
+fn every_wrong_call_over_numbers_is_found() {
+    for name in ["get_mindiff", "nearest_copy", "boundary_type", "sort_wires"] {
+        all_found(name, &Group::ALL, lists(name));
+    }
 }
 
 #[test]
 fn every_wrong_nearest_ends_is_found() {
-    let lists = vec![
-        search::wrong_distances(),
-        search::wrong_pending(),
-        search::wrong_nearest(),
-    ];
-    all_found("nearest_correction", &Group::ALL, lists);
+    let name = "nearest_correction";
+    all_found(name, &Group::ALL, lists(name));
 }
 
 #[test]
 fn every_wrong_search_is_found() {
-    let lists = vec![
-        search::wrong_distances(),
-        search::wrong_pending(),
-        search::wrong_pairs(),
-        search::wrong_search(),
+    let name = "find_non_simple_wire_divisor";
+    all_found(name, &Group::ALL, lists(name));
+    let checks = vec![pass::wrong_sight(), pass::wrong_rows()];
+    all_found(name, &Group::ALL, checks);
+}
+
+#[test]
+fn every_wrong_cut_is_found() {
+    let name = "cut_edge_by_intersections";
+    all_found(name, &SHORT, lists(name));
+    let checks = vec![
+        pass::wrong_refusals(),
         pass::wrong_sight(),
         pass::wrong_rows(),
     ];
-    all_found("find_non_simple_wire_divisor", &Group::ALL, lists);
+    all_found(name, &SHORT, checks);
+}
+
+#[test]
+fn every_wrong_join_is_found() {
+    let name = "connect_open_boundaries";
+    all_found(name, &SHORT, lists(name));
+}
+
+#[test]
+fn the_small_group_finds_every_wrong_cut_and_join() {
+    let cuts = vec![
+        cut::wrong_pieces(),
+        cut::wrong_points(),
+        cut::wrong_mending(),
+        cut::wrong_without_cut(),
+    ];
+    all_found("cut_edge_by_intersections", &[Group::Small], cuts);
+    let joins = vec![
+        join::wrong_changes(),
+        join::wrong_turns(),
+        join::wrong_holders(),
+        join::wrong_places(),
+        join::wrong_new_wires(),
+        join::wrong_parts(),
+        join::wrong_neighbours(),
+        join::wrong_join_ends(),
+    ];
+    all_found("connect_open_boundaries", &[Group::Small], joins);
 }
 
 #[test]

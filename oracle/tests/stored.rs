@@ -6,58 +6,8 @@ mod wrong;
 
 use oracle::port::Port;
 use oracle::reference::Reference;
-use oracle::stored::{make, replay};
-use wrong::{near, pass, search, Mutant, Only};
-
-/// How often each call and each of its answers must be stored at least.
-const LEAST: [(&str, &[(i32, usize)]); 7] = [
-    (
-        "split_closed_edges",
-        &[
-            (0, 1000),
-            (1, 100),
-            (2, 100),
-            (3, 100),
-            (4, 100),
-            (5, 100),
-            (6, 100),
-        ],
-    ),
-    ("get_mindiff", &[(0, 300), (1, 20), (4, 20), (5, 20)]),
-    ("nearest_copy", &[(0, 300), (1, 20), (4, 20), (5, 20)]),
-    ("boundary_type", &[(0, 300), (4, 20)]),
-    (
-        "sort_wires",
-        &[(0, 100), (-1, 20), (1, 20), (4, 20), (6, 20)],
-    ),
-    (
-        "nearest_correction",
-        &[
-            (0, 100),
-            (-1, 20),
-            (1, 20),
-            (2, 20),
-            (3, 20),
-            (4, 20),
-            (5, 20),
-            (7, 20),
-        ],
-    ),
-    (
-        "find_non_simple_wire_divisor",
-        &[
-            (0, 100),
-            (-1, 20),
-            (1, 20),
-            (2, 20),
-            (3, 20),
-            (4, 20),
-            (5, 20),
-            (7, 20),
-            (8, 20),
-        ],
-    ),
-];
+use oracle::stored::{make, replay, QUOTAS};
+use wrong::{lists, Only};
 
 #[test]
 fn stored_answers_are_always_the_same_and_hold() {
@@ -65,13 +15,13 @@ fn stored_answers_are_always_the_same_and_hold() {
     assert!(bytes == make());
     assert!(bytes.len() <= 4_000_000, "{} bytes", bytes.len());
     let tallies = replay(&Reference::default(), &bytes).unwrap();
-    for ((name, tally), (call, least)) in tallies.iter().zip(LEAST) {
+    for ((name, tally), (call, least)) in tallies.iter().zip(QUOTAS) {
         assert_eq!((*name, tally.differences), (call, 0));
         for (answer, times) in least {
             assert!(tally.answers[answer] >= *times, "{name} {answer}");
         }
     }
-    assert_eq!(tallies.len(), LEAST.len());
+    assert_eq!(tallies.len(), QUOTAS.len());
     assert_eq!(tallies[0].1.calls, 2000);
 }
 
@@ -83,8 +33,8 @@ fn the_list_in_the_repository_is_this_one() {
     assert!(std::fs::read(place).unwrap() == make());
 }
 
-/// The mutants of these lists that the stored answers of a call do not find.
-fn missed(call: &str, bytes: &[u8], lists: Vec<Vec<Mutant>>) -> Vec<&'static str> {
+/// The wrong ports of a call that its stored answers do not find.
+fn missed(call: &str, bytes: &[u8]) -> Vec<&'static str> {
     let found = |port: &dyn Port| {
         let only = Only { name: call, port };
         let tallies = replay(&only, bytes).unwrap();
@@ -94,7 +44,7 @@ fn missed(call: &str, bytes: &[u8], lists: Vec<Vec<Mutant>>) -> Vec<&'static str
         tally.differences
     };
     let mut missed = Vec::new();
-    for (name, port) in lists.into_iter().flatten() {
+    for (name, port) in lists(call).into_iter().flatten() {
         let differences = found(port.as_ref());
         println!("{call}, {name}: {differences} of the stored answers");
         if differences == 0 {
@@ -106,17 +56,6 @@ fn missed(call: &str, bytes: &[u8], lists: Vec<Vec<Mutant>>) -> Vec<&'static str
 
 #[test]
 fn stored_answers_find_wrong_passes() {
-    let lists = vec![
-        pass::wrong_results(),
-        pass::wrong_vertices(),
-        pass::wrong_middles(),
-        pass::wrong_refusals(),
-        pass::wrong_bounds(),
-        pass::wrong_sight(),
-        pass::wrong_rows(),
-        pass::wrong_writes(),
-        pass::wrong_ends(),
-    ];
     // These need tables at their bounds, or a NaN in a call that is done.
     let known = [
         "no bound on vertices out",
@@ -125,44 +64,27 @@ fn stored_answers_find_wrong_passes() {
         "edges are refused at 4096",
         "NaN made quiet past the result",
     ];
-    assert_eq!(missed("split_closed_edges", &make(), lists), known);
+    assert_eq!(missed("split_closed_edges", &make()), known);
 }
 
 #[test]
 fn stored_answers_find_wrong_calls_over_numbers() {
     let bytes = make();
-    let none: [&str; 0] = [];
-    let lists = vec![near::wrong_unwrapping(), near::wrong_numbers()];
-    assert_eq!(missed("get_mindiff", &bytes, lists), none);
-    let lists = vec![near::wrong_copies(), near::wrong_copying()];
-    assert_eq!(missed("nearest_copy", &bytes, lists), none);
-    let lists = vec![near::wrong_kinds()];
-    assert_eq!(missed("boundary_type", &bytes, lists), none);
-    let lists = vec![near::wrong_sorting(), near::wrong_sorting_calls()];
+    for call in ["get_mindiff", "nearest_copy", "boundary_type"] {
+        assert_eq!(missed(call, &bytes), [""; 0]);
+    }
     // These need more floats than a stored buffer holds.
     let known = ["64 wires are too many", "65 wires pass"];
-    assert_eq!(missed("sort_wires", &bytes, lists), known);
+    assert_eq!(missed("sort_wires", &bytes), known);
 }
 
 #[test]
 fn stored_answers_find_wrong_searches() {
     let bytes = make();
-    let none: [&str; 0] = [];
-    let lists = vec![
-        search::wrong_distances(),
-        search::wrong_pending(),
-        search::wrong_nearest(),
-    ];
     // These need more uses than a stored buffer holds.
     let known = ["1024 uses are too many", "1025 uses pass"];
-    assert_eq!(missed("nearest_correction", &bytes, lists), known);
-    let lists = vec![
-        search::wrong_distances(),
-        search::wrong_pending(),
-        search::wrong_pairs(),
-        search::wrong_search(),
-    ];
-    assert_eq!(missed("find_non_simple_wire_divisor", &bytes, lists), none);
+    assert_eq!(missed("nearest_correction", &bytes), known);
+    assert_eq!(missed("find_non_simple_wire_divisor", &bytes), [""; 0]);
 }
 
 #[test]

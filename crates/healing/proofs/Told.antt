@@ -13,8 +13,9 @@ use Rattle.compress.specs.Refusals.{refusalNumber}
 use Rattle.compress.specs.Said.{Said, result, none, refused}
 use Rattle.compress.specs.Shell.{Counts}
 use Rattle.split_closed_edges.specs.Contract.{Outcome}
+use Rattle.join.specs.Contract.{JoinOutcome}
 use Rattle.nearest.specs.Kinds.{SortOutcome}
-use Rattle.healing.specs.Host.{codeOf, placesAfter, Told, HostShell, HostSort}
+use Rattle.healing.specs.Host.{codeOf, placesAfter, Told, HostShell, HostJoin, HostSort}
 
 number-small : (r : Refusal) → refusalNumber r ≤ 15
 number-small Malformed = omega arith
@@ -66,3 +67,6 @@ shell-told q t = record { told = rw (← q) t; lent = ap (λ (o : Outcome). o .s
 
 pub sort-told : {x o : SortOutcome} {before after : ℕ} {r : ℤ} → x ≡ o → Told (x .said) before after r → HostSort o before after (x .opens) (x .closed) r
 sort-told q t = rw (← q) (record { told = t; opens = refl; closed = refl })
+
+pub join-told : {x o : JoinOutcome} {before after : ℕ} {r : ℤ} → x ≡ o → Told (x .said) before after r → HostJoin o before after (x .us) (x .ls) r
+join-told q t = rw (← q) (record { told = t; uses = refl; lengths = refl })

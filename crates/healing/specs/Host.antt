@@ -11,6 +11,7 @@ use Rattle.compress.specs.Refusals.{refusalNumber}
 use Rattle.compress.specs.Said.{Said, result, none, refused, onResult}
 use Rattle.compress.specs.Shell.{Slices, Counts}
 use Rattle.split_closed_edges.specs.Contract.{Outcome}
+use Rattle.join.specs.Contract.{JoinOutcome}
 use Rattle.nearest.specs.declared.Period.{Period}
 use Rattle.nearest.specs.declared.Period.the-variants.{Absent, Every}
 use Rattle.nearest.specs.declared.BoundaryType.{BoundaryType}
@@ -42,6 +43,12 @@ pub record Told {A : Type 0} (s : Said A) (before after : A) (r : ℤ) : Type 0 
 pub record HostShell (o : Outcome) (before after : Counts) (slices : Slices) (r : ℤ) : Type 0 where
   pub told : Told (o .said) before after r
   pub lent : slices ≡ o .slices
+
+-- ---- the join of open wires, for a host
+pub record HostJoin (o : JoinOutcome) (before after : ℕ) (us ls : List ℕ) (r : ℤ) : Type 0 where
+  pub told : Told (o .said) before after r
+  pub uses : us ≡ o .us
+  pub lengths : ls ≡ o .ls
 
 -- ---- periods: kind 0 is absent, kind 1 is the number; 1, "a kind field holds no known kind"
 unfoldable pub periodSaid : ℕ → Float → Said Period

@@ -6,7 +6,7 @@ use mathlib.Core.List.{List, [], _∷_, _++_}
 use Prim.Native.Nat.{ℕ, zero, suc, _+_, _-_, _*_, _≤_, _<_}
 use native.Mathlib.Omega.{arith}
 use lib.ListN.{length, getD, set, take, drop, replicate, length-append, length-set, length-drop, length-replicate}
-use lib.Seq.{length-take-le}
+use lib.Seq.{length-take-le, take-set-lt}
 use lib.Dec.{eqb, leb, ltb}
 use borrow.Author.Tests.{leb-false, ltb-false}
 use lib.Ieee.{Float, nan}
@@ -64,15 +64,9 @@ take-replicate a (suc n) zero h = absurd (none h)
     none g = omega arith
 take-replicate {A} a (suc n) (suc k) h = ap (λ (l : List A). a ∷ l) (take-replicate a n k (omega arith))
 
-take-set : (n i m : ℕ) (l : List ℕ) → take n (set l i m) ≡ set (take n l) i m
-take-set zero i m l = refl
-take-set (suc n) i m [] = refl
-take-set (suc n) zero m (x ∷ l) = refl
-take-set (suc n) (suc i) m (x ∷ l) = ap (λ (t : List ℕ). x ∷ t) (take-set n i m l)
-
-pub marked : (n i m : ℕ) → n ≤ 4096 → take n (set (replicate 4096 0) i m) ≡ addedAt n i m
+pub marked : (n i m : ℕ) → i < n → n ≤ 4096 → take n (set (replicate 4096 0) i m) ≡ addedAt n i m
 unfolding addedAt
-marked n i m h = take-set n i m (replicate 4096 0) ∙ ap (λ (l : List ℕ). set l i m) (take-replicate 0 n 4096 h)
+marked n i m lt h = take-set-lt n (replicate 4096 0) i m lt ∙ ap (λ (l : List ℕ). set l i m) (take-replicate 0 n 4096 h)
 
 pub length-added : (n i m : ℕ) → length (addedAt n i m) ≡ n
 unfolding addedAt

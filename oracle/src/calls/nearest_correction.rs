@@ -8,7 +8,7 @@ use crate::inputs::{any_count, damage_tables, noise, parameters, spoil_number, s
 use crate::model::search::Stretches;
 use crate::port::{Nearest, Port};
 use crate::random::Random;
-use crate::records::{notation, wire, Vertex};
+use crate::records::{wire, Vertex};
 use crate::shell::{needed, numbers_poison, Lent, Tables, NAMES};
 use crate::{describe, records::Shell};
 
@@ -85,18 +85,14 @@ impl Input for NearestEnds {
     }
 
     fn describe(&self) -> String {
-        let stretch = |uses: &[u32], count: usize| {
-            let uses_below = notation(&uses[..count.min(uses.len())]);
-            format!("{count} of {}: {uses_below}", uses.len())
-        };
         format!(
             "{} vertices, {} edges, buffers {:?}\n  from {}\n  first, {}\n  second, {}\n{}",
             self.tables.vertices,
             self.tables.edges,
             self.tables.sizes(),
             self.v0,
-            stretch(&self.first, self.first_count),
-            stretch(&self.second, self.second_count),
+            describe::uses(&self.first, self.first_count),
+            describe::uses(&self.second, self.second_count),
             describe::tables(&self.tables)
         )
     }

@@ -51,7 +51,18 @@ impl Input for Lent {
     fn ask(&self, port: &dyn Port, slices: Vec<Slice<'_>>, out: Slice<'_>) -> i32 {
         let mut slices = slices.into_iter();
         let mut next = || slices.next().expect("six slices");
-        port.split_closed_edges(Pass {
+        port.split_closed_edges(self.pass(&mut next, out.counts()))
+    }
+
+    fn describe(&self) -> String {
+        describe::lent(self)
+    }
+}
+
+impl Lent {
+    /// The call over the next six slices.
+    pub fn pass<'a>(&self, next: &mut impl FnMut() -> Slice<'a>, out: &'a mut [usize]) -> Pass<'a> {
+        Pass {
             vertex_numbers: next().numbers(),
             vertex_floats: next().floats(),
             edge_numbers: next().numbers(),
@@ -61,12 +72,8 @@ impl Input for Lent {
             vertices: self.tables.vertices,
             edges: self.tables.edges,
             wires: self.wires,
-            out: out.counts(),
-        })
-    }
-
-    fn describe(&self) -> String {
-        describe::lent(self)
+            out,
+        }
     }
 }
 

@@ -98,6 +98,15 @@ pub fn tables(vertices: &[Vertex], edges: &[Edge]) -> Tables {
     Lent::holding(&shell, sizes, &mut Random::new(7, 7, 7)).tables
 }
 
+/// Tables that hold just these edges and have no vertex rows, but a count of
+/// vertices.
+pub fn edge_table(vertices: usize, edges: &[Edge]) -> Tables {
+    Tables {
+        vertices,
+        ..tables(&[], edges)
+    }
+}
+
 /// A change of the sample's tables, its name, and the number that it earns;
 /// 0 where the answer stays the same.
 pub type Spoil = (&'static str, i32, fn(&mut Tables));

@@ -52,6 +52,11 @@ pub fn done(name: &'static str, before: &Shell, after: &Shell) -> Case<Lent> {
     }
 }
 
+/// The bits of floats.
+pub fn bits(floats: &[f64]) -> Vec<u64> {
+    floats.iter().map(|float| float.to_bits()).collect()
+}
+
 /// Counts as they stand in the out places.
 pub fn words(counts: [usize; 3]) -> Vec<u64> {
     counts.map(|count| count as u64).to_vec()

@@ -35,7 +35,7 @@ pub fn nearest_refused(tables: &Tables, stretches: &Stretches) -> Option<i32> {
 }
 
 /// 1: a count of uses is above what was lent, or both are above the bound.
-fn stretches_passed(stretches: &Stretches) -> bool {
+pub(super) fn stretches_passed(stretches: &Stretches) -> bool {
     let (first, second) = (stretches.first_count, stretches.second_count);
     first > stretches.first.len()
         || second > stretches.second.len()

@@ -45,12 +45,13 @@ impl Default for Steps {
     }
 }
 
-/// A result before it is written back.
-struct Mended {
-    vertices: Vec<Vertex>,
-    edges: Vec<Edge>,
-    uses: Vec<u32>,
-    lengths: Vec<u32>,
+/// A result before it is written back: the vertices that are added, and all
+/// edges and wires.
+pub struct Mended {
+    pub vertices: Vec<Vertex>,
+    pub edges: Vec<Edge>,
+    pub uses: Vec<u32>,
+    pub lengths: Vec<u32>,
 }
 
 /// Makes the pass.
@@ -92,7 +93,10 @@ impl Steps {
                 edges.push(edge(ends[1], halves[1]));
             }
         }
-        let (uses, lengths) = self.mended_wires(call, &added);
+        let (uses, lengths) = mended_wires(call, |_, number| {
+            let new = added[number as usize / 2]?;
+            Some((self.mend)(number, new))
+        });
         Mended {
             vertices,
             edges,
@@ -100,27 +104,31 @@ impl Steps {
             lengths,
         }
     }
+}
 
-    /// The uses and lengths of all wires, with the new edges put in.
-    fn mended_wires(&self, call: &Pass, added: &[Option<u32>]) -> (Vec<u32>, Vec<u32>) {
-        let (mut uses, mut lengths, mut place) = (Vec::new(), Vec::new(), 0);
-        for &length in &call.lengths[..call.wires] {
-            let before = uses.len();
-            for &number in &call.uses[place..place + length as usize] {
-                match added[number as usize / 2] {
-                    Some(new) => uses.extend((self.mend)(number, new)),
-                    None => uses.push(number),
-                }
+/// The uses and lengths of all wires, each use replaced by what the function
+/// gives for its wire and for it, if it gives anything.
+pub fn mended_wires(
+    call: &Pass,
+    mut replaced: impl FnMut(usize, u32) -> Option<[u32; 2]>,
+) -> (Vec<u32>, Vec<u32>) {
+    let (mut uses, mut lengths, mut place) = (Vec::new(), Vec::new(), 0);
+    for (wire, &length) in call.lengths[..call.wires].iter().enumerate() {
+        let before = uses.len();
+        for &number in &call.uses[place..place + length as usize] {
+            match replaced(wire, number) {
+                Some(both) => uses.extend(both),
+                None => uses.push(number),
             }
-            place += length as usize;
-            lengths.push((uses.len() - before) as u32);
         }
-        (uses, lengths)
+        place += length as usize;
+        lengths.push((uses.len() - before) as u32);
     }
+    (uses, lengths)
 }
 
 /// A forward use is followed by the new edge, a reversed one comes after it.
-fn mend(number: u32, new: u32) -> [u32; 2] {
+pub fn mend(number: u32, new: u32) -> [u32; 2] {
     match number % 2 {
         0 => [number, 2 * new],
         _ => [2 * new + 1, number],
@@ -133,7 +141,7 @@ fn edge((front, back): (u32, u32), curve: Curve) -> Edge {
 }
 
 /// Writes a result over what was lent.
-fn write(call: Pass<'_>, mended: &Mended, counts: [usize; 3]) {
+pub fn write(call: Pass<'_>, mended: &Mended, counts: [usize; 3]) {
     let numbers = call.vertex_numbers.chunks_mut(VERTEX_NUMBERS);
     let rows = numbers.zip(call.vertex_floats.chunks_mut(VERTEX_FLOATS));
     for ((numbers, floats), vertex) in rows.skip(call.vertices).zip(&mended.vertices) {

@@ -1,6 +1,6 @@
 //! The causes that tables and wires meet, all of them in any order.
 
-use crate::port::{Nearest, Rows, Wires};
+use crate::port::{Join, Nearest, Rows, Wires};
 use crate::shell::{EDGE_FLOATS, EDGE_NUMBERS, VERTEX_FLOATS, VERTEX_NUMBERS};
 
 /// The steps of the checks.
@@ -10,6 +10,8 @@ pub struct Steps {
     pub causes: fn(&Rows, &Wires) -> Vec<i32>,
     /// All causes of a refusal among 1 to 5 that nearest ends meets.
     pub nearest_causes: fn(&Nearest) -> Vec<i32>,
+    /// All causes of a refusal among 1 to 5 that a join meets.
+    pub join_causes: fn(&Join) -> Vec<i32>,
     /// Whether a vertex is pending that must not be, from the tables and the
     /// uses that are gone through.
     pub pending: fn(&Rows, &[u32]) -> bool,
@@ -22,6 +24,7 @@ impl Default for Steps {
         Steps {
             causes,
             nearest_causes,
+            join_causes,
             pending,
             choose: |causes| causes.iter().min().copied(),
         }
@@ -87,6 +90,30 @@ pub fn nearest_causes(call: &Nearest) -> Vec<i32> {
     found
 }
 
+/// All causes among 1 to 5 that a join meets. It has no vertex table, and its
+/// two open wires count among the wires.
+pub fn join_causes(call: &Join) -> Vec<i32> {
+    let rows = &call.rows;
+    let (first, second) = (
+        call.first.get(..call.first_count),
+        call.second.get(..call.second_count),
+    );
+    let counted = rows.vertices <= 4096 && rows.edges <= 4096 && have_room(rows, 0, rows.edges);
+    let (Some(first), Some(second), Some(new), true) =
+        (first, second, use_count(&call.new_wires()), counted)
+    else {
+        return vec![1];
+    };
+    let mut found = edge_causes(rows);
+    found.extend((call.wires > 62 || first.len() + second.len() + new > 1024).then_some(1));
+    found.extend((call.v0 as usize >= rows.vertices).then_some(2));
+    found.extend((call.v1 as usize >= rows.vertices).then_some(2));
+    for uses in [first, second, &call.uses[..new]] {
+        found.extend(use_causes(uses, rows.edges));
+    }
+    found
+}
+
 /// Whether any vertex is pending, used or not.
 pub fn pending(rows: &Rows, _uses: &[u32]) -> bool {
     vertex_rows(rows).any(|(numbers, _)| numbers[0] == 1)
@@ -106,14 +133,20 @@ fn use_count(wires: &Wires) -> Option<usize> {
 
 /// The causes that the rows of both tables meet.
 fn row_causes(rows: &Rows) -> Vec<i32> {
+    let mut found = edge_causes(rows);
+    for (numbers, floats) in vertex_rows(rows) {
+        found.extend(vertex_causes(numbers, floats));
+    }
+    found
+}
+
+/// The causes that the rows of the edge table meet.
+fn edge_causes(rows: &Rows) -> Vec<i32> {
     let mut found = Vec::new();
     for (numbers, floats) in edge_rows(rows) {
         let ends = numbers[0].max(numbers[1]) as usize;
         found.extend((ends >= rows.vertices).then_some(2));
         found.extend(curve_causes(numbers[2], floats));
-    }
-    for (numbers, floats) in vertex_rows(rows) {
-        found.extend(vertex_causes(numbers, floats));
     }
     found
 }

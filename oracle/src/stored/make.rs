@@ -22,7 +22,7 @@ const MOST_IN_ALL: usize = 120;
 const SEED: u64 = 0x6b61_7567;
 
 /// An answer, and how many calls of it are stored.
-type Quota = (i32, usize);
+pub type Quota = (i32, usize);
 
 /// How many calls of `split_closed_edges` are stored.
 const OF_PASS: [Quota; 7] = [
@@ -67,6 +67,17 @@ const OF_SEARCH: [Quota; 9] = [
     (5, 20),
     (7, 20),
     (8, 60),
+];
+
+/// How many calls are stored at least, by the name of the call.
+pub const QUOTAS: [(&str, &[Quota]); 7] = [
+    (Lent::NAME, &OF_PASS),
+    (Unwrap::NAME, &OF_NUMBERS),
+    (NearestCopy::NAME, &OF_NUMBERS),
+    (WireEnds::NAME, &OF_KINDS),
+    (SortWires::NAME, &OF_SORTING),
+    (NearestEnds::NAME, &OF_ENDS),
+    (FindDivisor::NAME, &OF_SEARCH),
 ];
 
 /// How many calls are stored to tell one other distance from the right one.

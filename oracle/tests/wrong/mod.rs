@@ -1,16 +1,34 @@
 //! Ports that are wrong in one place each.
 #![allow(dead_code)]
 
+pub mod cut;
+pub mod join;
 pub mod near;
 pub mod pass;
 pub mod search;
 
-use oracle::port::{Nearest, NearestCopy, Pass, Port, Search, Sort, Unwrap, WireEnds};
+use oracle::port::{Cut, Join, Nearest, NearestCopy, Pass, Port, Search, Sort, Unwrap, WireEnds};
 use oracle::reference::Reference;
 use oracle::shell::Lent;
 
 /// A wrong port with the name of what is wrong.
 pub type Mutant = (&'static str, Box<dyn Port>);
+
+/// The wrong ports of a call.
+pub fn lists(call: &str) -> Vec<Vec<Mutant>> {
+    match call {
+        "split_closed_edges" => pass::lists(),
+        "get_mindiff" => vec![near::wrong_unwrapping(), near::wrong_numbers()],
+        "nearest_copy" => vec![near::wrong_copies(), near::wrong_copying()],
+        "boundary_type" => vec![near::wrong_kinds()],
+        "sort_wires" => vec![near::wrong_sorting(), near::wrong_sorting_calls()],
+        "nearest_correction" => search::lists_of_nearest(),
+        "find_non_simple_wire_divisor" => search::lists_of_search(),
+        "cut_edge_by_intersections" => cut::lists(),
+        "connect_open_boundaries" => join::lists(),
+        _ => panic!("no call of the name {call}"),
+    }
+}
 
 /// The reference with some steps replaced.
 pub fn step(name: &'static str, change: fn(&mut Reference)) -> Mutant {
@@ -30,6 +48,9 @@ pub struct Behind {
     pub sort: fn(i32, &mut Sort) -> i32,
     pub nearest: fn(i32, &mut Nearest) -> i32,
     pub search: fn(i32, &mut Search) -> i32,
+    pub cut: fn(i32, &Lent, &mut Cut) -> i32,
+    /// The uses and lengths of the new wires as they were come first.
+    pub join: fn(i32, [&[u32]; 2], &mut Join) -> i32,
 }
 
 /// A port that does something wrong after all else was right.
@@ -42,6 +63,8 @@ pub fn behind(name: &'static str, change: impl Fn(&mut Behind)) -> Mutant {
         sort: |answer, _| answer,
         nearest: |answer, _| answer,
         search: |answer, _| answer,
+        cut: |answer, _, _| answer,
+        join: |answer, _, _| answer,
     };
     change(&mut behind);
     (name, Box::new(behind))
@@ -84,6 +107,14 @@ impl Port for Only<'_> {
 
     fn find_non_simple_wire_divisor(&self, call: Search<'_>) -> i32 {
         self.port.find_non_simple_wire_divisor(call)
+    }
+
+    fn cut_edge_by_intersections(&self, call: Cut<'_>) -> i32 {
+        self.port.cut_edge_by_intersections(call)
+    }
+
+    fn connect_open_boundaries(&self, call: Join<'_>) -> i32 {
+        self.port.connect_open_boundaries(call)
     }
 }
 
@@ -138,5 +169,17 @@ impl Port for Behind {
             ..call
         });
         (self.search)(answer, &mut call)
+    }
+
+    fn cut_edge_by_intersections(&self, mut call: Cut<'_>) -> i32 {
+        let before = call.pass.copy();
+        let answer = right().cut_edge_by_intersections(call.again());
+        (self.cut)(answer, &before, &mut call)
+    }
+
+    fn connect_open_boundaries(&self, mut call: Join<'_>) -> i32 {
+        let (uses, lengths) = (call.uses.to_vec(), call.lengths.to_vec());
+        let answer = right().connect_open_boundaries(call.again());
+        (self.join)(answer, [&uses, &lengths], &mut call)
     }
 }

@@ -7,6 +7,21 @@ use oracle::reference::pass::fits;
 use oracle::reference::tables::{causes, have_room};
 use oracle::shell::{Lent, Tables, EDGE_FLOATS, EDGE_NUMBERS, VERTEX_FLOATS, VERTEX_NUMBERS};
 
+/// All wrong passes.
+pub fn lists() -> Vec<Vec<Mutant>> {
+    vec![
+        wrong_results(),
+        wrong_vertices(),
+        wrong_middles(),
+        wrong_refusals(),
+        wrong_bounds(),
+        wrong_sight(),
+        wrong_rows(),
+        wrong_writes(),
+        wrong_ends(),
+    ]
+}
+
 /// A pass that does something wrong after all else was right.
 fn after(name: &'static str, spoil: fn(i32, &Lent, &mut Pass) -> i32) -> Mutant {
     behind(name, |after| after.pass = spoil)

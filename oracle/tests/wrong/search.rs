@@ -4,6 +4,21 @@ use super::{behind, step, Mutant};
 use oracle::reference::search::{distance2, pair, Found};
 use oracle::reference::tables::{causes, edge_rows, nearest_causes, pending, vertex_rows};
 
+/// All wrong nearest ends.
+pub fn lists_of_nearest() -> Vec<Vec<Mutant>> {
+    vec![wrong_distances(), wrong_pending(), wrong_nearest()]
+}
+
+/// All wrong searches, save those with wrong checks of tables and wires.
+pub fn lists_of_search() -> Vec<Vec<Mutant>> {
+    vec![
+        wrong_distances(),
+        wrong_pending(),
+        wrong_pairs(),
+        wrong_search(),
+    ]
+}
+
 /// Distances and fronts that are wrong, for both calls.
 pub fn wrong_distances() -> Vec<Mutant> {
     vec![

@@ -14,7 +14,7 @@ slice-aggregate-mark-cut c = search needs
 mark-cut-requires : tie.Need-mark-cut-requires
 mark-cut-requires c κs =
     let A = accepted _ _ _ _ _ _ _ _ _ (c .before .before .before .before .before .before .before .pre .0) in
-    (omega (arith, A .edges .below, c .before .before .before .before .before .before .before .pre .1), A .edges .below)
+    (omega (arith, A .edges .below, c .before .before .before .before .before .before .before .pre .1), omega (arith, A .vertices .below, A .edges .below, A .wires .below))
 
 array-share-prefix-added : tie.Need-array-share-prefix-added
 array-share-prefix-added c =
@@ -36,7 +36,7 @@ replace-wires-requires : tie.Need-replace-wires-requires
 replace-wires-requires c κs =
     let a = c .before .before .before .before .before .before .before .before .before .before .before .before .before .before .args in
     let A = accepted _ _ _ _ _ _ _ _ _ (c .before .before .before .before .before .before .before .before .before .before .before .before .before .before .pre .0) in
-    replaceable _ _ _ _ _ _ _ _ _ (a .i) (a .c) (c .before .before .before .before .before .before .before .before .before .before .before .before .before .before .pre .0) _ _ _ (rw (c .before .before .before .before .before .before .mark-cut .ensures) (marked (a .edges) (a .i) (a .edges) (A .edges .below))) (omega arith) (omega arith)
+    replaceable _ _ _ _ _ _ _ _ _ (a .i) (a .c) (c .before .before .before .before .before .before .before .before .before .before .before .before .before .before .pre .0) _ _ _ (rw (c .before .before .before .before .before .before .mark-cut .ensures) (marked (a .edges) (a .i) (a .edges) (c .before .before .before .before .before .before .before .before .before .before .before .before .before .before .pre .1) (A .edges .below))) (omega arith) (omega arith)
 
 add-vertices-fit : tie.Need-add-vertices-fit
 add-vertices-fit c =
@@ -61,7 +61,7 @@ put-cut-requires : tie.Need-put-cut-requires
 put-cut-requires c κs =
     let a = c .before .before .before .before .before .before .before .before .before .before .before .before .before .before .before .before .before .before .before .before .before .before .before .before .before .before .before .before .before .before .args in
     let A = accepted _ _ _ _ _ _ _ _ _ (c .before .before .before .before .before .before .before .before .before .before .before .before .before .before .before .before .before .before .before .before .before .before .before .before .before .before .before .before .before .before .pre .0) in
-    let W = worked _ _ _ _ _ _ _ _ _ (a .i) (a .c) (c .before .before .before .before .before .before .before .before .before .before .before .before .before .before .before .before .before .before .before .before .before .before .before .before .before .before .before .before .before .before .pre .0) _ _ _ _ (rw (c .before .before .before .before .before .before .before .before .before .before .before .before .before .before .before .before .before .before .before .before .before .before .mark-cut .ensures) (marked (a .edges) (a .i) (a .edges) (A .edges .below))) (c .before .before .before .before .before .before .before .before .before .before .before .before .before .before .before .replace-wires .ensures) in
+    let W = worked _ _ _ _ _ _ _ _ _ (a .i) (a .c) (c .before .before .before .before .before .before .before .before .before .before .before .before .before .before .before .before .before .before .before .before .before .before .before .before .before .before .before .before .before .before .pre .0) _ _ _ _ (rw (c .before .before .before .before .before .before .before .before .before .before .before .before .before .before .before .before .before .before .before .before .before .before .mark-cut .ensures) (marked (a .edges) (a .i) (a .edges) (c .before .before .before .before .before .before .before .before .before .before .before .before .before .before .before .before .before .before .before .before .before .before .before .before .before .before .before .before .before .before .pre .1) (A .edges .below))) (c .before .before .before .before .before .before .before .before .before .before .before .before .before .before .before .replace-wires .ensures) in
     let p = places _ _ _ _ _ _ _ _ _ _ _ _ _ _ W (roomy _ _ _ _ _ _ _ _ _ _ _ _ _ _ W _ _ _ (c .before .before .before .before .before .before .before .before .before .before .vertices-fit .ensures) (c .before .before .before .before .before .before .before .edges-fit .ensures) (c .before .before .before .before .before .uses-fit .ensures) (c .before .before .before .before .if1 .taken)) in
     (p .0, (c .before .before .before .before .before .before .before .before .before .before .before .before .before .before .before .before .before .before .before .before .before .before .before .before .before .before .before .before .before .before .pre .1, p .1 .0, p .1 .1))
 
@@ -72,7 +72,7 @@ copy-requires : tie.Need-copy-requires
 copy-requires c κs =
     let a = c .before .before .before .before .before .before .before .before .before .before .before .before .before .before .before .before .before .before .before .before .before .before .before .before .before .before .before .before .before .before .before .before .before .before .before .before .before .before .before .before .before .args in
     let A = accepted _ _ _ _ _ _ _ _ _ (c .before .before .before .before .before .before .before .before .before .before .before .before .before .before .before .before .before .before .before .before .before .before .before .before .before .before .before .before .before .before .before .before .before .before .before .before .before .before .before .before .before .pre .0) in
-    let W = worked _ _ _ _ _ _ _ _ _ (a .i) (a .c) (c .before .before .before .before .before .before .before .before .before .before .before .before .before .before .before .before .before .before .before .before .before .before .before .before .before .before .before .before .before .before .before .before .before .before .before .before .before .before .before .before .before .pre .0) _ _ _ _ (rw (c .before .before .before .before .before .before .before .before .before .before .before .before .before .before .before .before .before .before .before .before .before .before .before .before .before .before .before .before .before .before .before .before .before .mark-cut .ensures) (marked (a .edges) (a .i) (a .edges) (A .edges .below))) (c .before .before .before .before .before .before .before .before .before .before .before .before .before .before .before .before .before .before .before .before .before .before .before .before .before .before .replace-wires .ensures) in
+    let W = worked _ _ _ _ _ _ _ _ _ (a .i) (a .c) (c .before .before .before .before .before .before .before .before .before .before .before .before .before .before .before .before .before .before .before .before .before .before .before .before .before .before .before .before .before .before .before .before .before .before .before .before .before .before .before .before .before .pre .0) _ _ _ _ (rw (c .before .before .before .before .before .before .before .before .before .before .before .before .before .before .before .before .before .before .before .before .before .before .before .before .before .before .before .before .before .before .before .before .before .mark-cut .ensures) (marked (a .edges) (a .i) (a .edges) (c .before .before .before .before .before .before .before .before .before .before .before .before .before .before .before .before .before .before .before .before .before .before .before .before .before .before .before .before .before .before .before .before .before .before .before .before .before .before .before .before .before .pre .1) (A .edges .below))) (c .before .before .before .before .before .before .before .before .before .before .before .before .before .before .before .before .before .before .before .before .before .before .before .before .before .before .replace-wires .ensures) in
     let p = places _ _ _ _ _ _ _ _ _ _ _ _ _ _ W (roomy _ _ _ _ _ _ _ _ _ _ _ _ _ _ W _ _ _ (c .before .before .before .before .before .before .before .before .before .before .before .before .before .before .before .before .before .before .before .before .before .vertices-fit .ensures) (c .before .before .before .before .before .before .before .before .before .before .before .before .before .before .before .before .before .before .edges-fit .ensures) (c .before .before .before .before .before .before .before .before .before .before .before .before .before .before .before .before .uses-fit .ensures) (c .before .before .before .before .before .before .before .before .before .before .before .before .before .before .before .if1 .taken)) in
     (omega (arith, p .2 .0, c .before .before .before .before .before .before .before .before .before .before .before .before .before .before .before .before .before .before .before .before .before .before .before .before .before .before .replace-wires .kept .1 .1 .1 .1 .0), p .2 .1)
 
@@ -119,7 +119,7 @@ returns : tie.Need-returns
 returns c =
     let a = c .before .before .before .before .before .before .before .before .before .before .before .before .before .before .before .before .before .before .before .before .before .before .before .before .before .before .before .before .before .before .before .before .before .before .before .before .before .before .before .before .before .before .before .before .before .before .before .before .before .before .args in
     let A = accepted _ _ _ _ _ _ _ _ _ (c .before .before .before .before .before .before .before .before .before .before .before .before .before .before .before .before .before .before .before .before .before .before .before .before .before .before .before .before .before .before .before .before .before .before .before .before .before .before .before .before .before .before .before .before .before .before .before .before .before .before .pre .0) in
-    let W = worked _ _ _ _ _ _ _ _ _ (a .i) (a .c) (c .before .before .before .before .before .before .before .before .before .before .before .before .before .before .before .before .before .before .before .before .before .before .before .before .before .before .before .before .before .before .before .before .before .before .before .before .before .before .before .before .before .before .before .before .before .before .before .before .before .before .pre .0) _ _ _ _ (rw (c .before .before .before .before .before .before .before .before .before .before .before .before .before .before .before .before .before .before .before .before .before .before .before .before .before .before .before .before .before .before .before .before .before .before .before .before .before .before .before .before .before .before .mark-cut .ensures) (marked (a .edges) (a .i) (a .edges) (A .edges .below))) (c .before .before .before .before .before .before .before .before .before .before .before .before .before .before .before .before .before .before .before .before .before .before .before .before .before .before .before .before .before .before .before .before .before .before .before .replace-wires .ensures) in
+    let W = worked _ _ _ _ _ _ _ _ _ (a .i) (a .c) (c .before .before .before .before .before .before .before .before .before .before .before .before .before .before .before .before .before .before .before .before .before .before .before .before .before .before .before .before .before .before .before .before .before .before .before .before .before .before .before .before .before .before .before .before .before .before .before .before .before .before .pre .0) _ _ _ _ (rw (c .before .before .before .before .before .before .before .before .before .before .before .before .before .before .before .before .before .before .before .before .before .before .before .before .before .before .before .before .before .before .before .before .before .before .before .before .before .before .before .before .before .before .mark-cut .ensures) (marked (a .edges) (a .i) (a .edges) (c .before .before .before .before .before .before .before .before .before .before .before .before .before .before .before .before .before .before .before .before .before .before .before .before .before .before .before .before .before .before .before .before .before .before .before .before .before .before .before .before .before .before .before .before .before .before .before .before .before .before .pre .1) (A .edges .below))) (c .before .before .before .before .before .before .before .before .before .before .before .before .before .before .before .before .before .before .before .before .before .before .before .before .before .before .before .before .before .before .before .before .before .before .before .replace-wires .ensures) in
     let R = roomy _ _ _ _ _ _ _ _ _ _ _ _ _ _ W _ _ _ (c .before .before .before .before .before .before .before .before .before .before .before .before .before .before .before .before .before .before .before .before .before .before .before .before .before .before .before .before .before .before .vertices-fit .ensures) (c .before .before .before .before .before .before .before .before .before .before .before .before .before .before .before .before .before .before .before .before .before .before .before .before .before .before .before .edges-fit .ensures) (c .before .before .before .before .before .before .before .before .before .before .before .before .before .before .before .before .before .before .before .before .before .before .before .before .before .uses-fit .ensures) (c .before .before .before .before .before .before .before .before .before .before .before .before .before .before .before .before .before .before .before .before .before .before .before .before .if1 .taken) in
     let p = c .before .before .before .before .before .before .before .before .before .before .before .before .before .before .before .before .before .before .before .put-cut .ensures in
     rw (c .answer .ensures) (outcome-done _ _ _ _ _ _ _ _ _ _ _ _ _ _ W _ _ _ _ _ _ R (c .before .before .before .before .before .before .before .before .before .before .before .before .before .before .before .before .before .before .before .before .before .before .before .before .before .before .before .before .before .before .before .before .before .before .before .before .before .before .before .before .before .before .before .before .before .before .before .before .before .before .pre .1) (p .0) (p .1 .0) (p .1 .1 .0) (p .1 .1 .1) (c .before .before .before .before .before .before .before .before .copy .ensures) (c .before .before .before .copy2 .ensures))
@@ -149,7 +149,7 @@ returns-2 : tie.Need-returns-2
 returns-2 c =
     let a = c .before .before .before .before .before .before .before .before .before .before .before .before .before .before .before .before .before .before .before .before .before .before .before .before .before .before .before .args in
     let A = accepted _ _ _ _ _ _ _ _ _ (c .before .before .before .before .before .before .before .before .before .before .before .before .before .before .before .before .before .before .before .before .before .before .before .before .before .before .before .pre .0) in
-    let W = worked _ _ _ _ _ _ _ _ _ (a .i) (a .c) (c .before .before .before .before .before .before .before .before .before .before .before .before .before .before .before .before .before .before .before .before .before .before .before .before .before .before .before .pre .0) _ _ _ _ (rw (c .before .before .before .before .before .before .before .before .before .before .before .before .before .before .before .before .before .before .before .mark-cut .ensures) (marked (a .edges) (a .i) (a .edges) (A .edges .below))) (c .before .before .before .before .before .before .before .before .before .before .before .before .replace-wires .ensures) in
+    let W = worked _ _ _ _ _ _ _ _ _ (a .i) (a .c) (c .before .before .before .before .before .before .before .before .before .before .before .before .before .before .before .before .before .before .before .before .before .before .before .before .before .before .before .pre .0) _ _ _ _ (rw (c .before .before .before .before .before .before .before .before .before .before .before .before .before .before .before .before .before .before .before .mark-cut .ensures) (marked (a .edges) (a .i) (a .edges) (c .before .before .before .before .before .before .before .before .before .before .before .before .before .before .before .before .before .before .before .before .before .before .before .before .before .before .before .pre .1) (A .edges .below))) (c .before .before .before .before .before .before .before .before .before .before .before .before .replace-wires .ensures) in
     rw (c .answer2 .ensures) (outcome-full _ _ _ _ _ _ _ _ _ _ _ _ _ _ W _ _ _ (c .before .before .before .before .before .before .before .vertices-fit .ensures) (c .before .before .before .before .edges-fit .ensures) (c .before .before .uses-fit .ensures) (c .before .if1 .left))
 
 pub cut-checked-spec : {M : Type 1} → statement M

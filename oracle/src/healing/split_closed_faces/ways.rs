@@ -49,3 +49,38 @@ pub fn divisor<C>(
 ) -> Option<(usize, usize)> {
     find_non_simple_wire_divisor(wires, edges, vertices)
 }
+
+/// One cut of an edge, and then every wire mended. Both are done by
+/// `take_vertices_to_intersections`, for each use in the wires of one face:
+/// where the list of intersections is empty it returns before the cut, which
+/// would panic on such a list, and mends nothing. After all uses of the face
+/// are gone through, the wires of all faces are mended, cut by cut.
+pub fn cut<C>(
+    index: usize,
+    cut: (f64, Point3),
+    edges: &mut Vec<Edge<C>>,
+    vertices: &mut Vec<Point3>,
+    wires: &mut [Wire],
+) where
+    C: Cut<Point = Point3> + ParameterDivision1D<Point = Point3>,
+{
+    let mut lines = vec![PolylineCurve(Vec::new()); edges.len()];
+    let new = cut_edge_by_intersections(index, vec![cut], edges, &mut lines, vertices, 0.1);
+    let mend = |wire: &mut Wire| insert_new_edges(wire, index, new.clone());
+    wires.iter_mut().for_each(mend);
+}
+
+/// The new wires with the two open ones put in. Where there is nothing to be
+/// had, the wires of the face stay as they were.
+pub fn joined<C>(
+    new: Vec<Wire>,
+    ends: (usize, usize),
+    edges: &[Edge<C>],
+    open: Vec<Wire>,
+) -> Option<Vec<Wire>> {
+    let before = vec![Vec::new(); 3];
+    let mut wires = before.clone();
+    let found = connect_open_boundaries(&mut wires, new, ends, edges, open);
+    assert!(found.is_some() || wires == before, "none changes nothing");
+    found.map(|()| wires)
+}

@@ -160,3 +160,76 @@ fn one_cut_mends_the_wires() {
     insert_new_edges(&mut mended, 1, new);
     assert_eq!(mended, wire("1+ 5+ 2+ 5- 1-"));
 }
+
+/// The ends of an edge and the range of its curve.
+type Piece = ((usize, usize), (f64, f64));
+
+/// The line from vertex 0 to vertex 1 with the parameters 0 to 1, cut at
+/// these: the pieces, the count of vertices, and the wire 0+ once it is mended.
+fn line_cut_at(ts: &[f64]) -> (Vec<Piece>, usize, Wire) {
+    let mut edges = all_edges(&[(0, 1)]);
+    edges[0].curve.curve = edges[0].curve.curve.over(0.0, 1.0);
+    let (mut points, mut lines) = (vertices()[..2].to_vec(), vec![PolylineCurve(Vec::new())]);
+    let cuts = ts.iter().map(|&t| (t, Point3::new(t, 0.0, 0.0))).collect();
+    let new = cut_edge_by_intersections(0, cuts, &mut edges, &mut lines, &mut points, 0.1);
+    let mut mended = wire("0+");
+    insert_new_edges(&mut mended, 0, new);
+    let told = |edge: &Edge<On<Point3>>| (edge.vertices, edge.curve.curve.range());
+    (edges.iter().map(told).collect(), points.len(), mended)
+}
+
+/// Why the port refuses two cuts: of the three pieces in the wire none begins
+/// where the one before it ends, and vertex 4 of four vertices is not there.
+#[test]
+fn two_cuts_come_apart() {
+    let (edges, vertices, mended) = line_cut_at(&[0.25, 0.5]);
+    let pieces = [
+        ((0, 2), (0.0, 0.25)),
+        ((3, 4), (0.5, 1.0)),
+        ((2, 1), (0.25, 0.5)),
+    ];
+    assert_eq!((&edges[..], vertices), (&pieces[..], 4));
+    assert_eq!(mended, wire("0+ 1+ 2+"));
+    let one = line_cut_at(&[0.25]);
+    let pieces = vec![((0, 2), (0.0, 0.25)), ((2, 1), (0.25, 1.0))];
+    assert_eq!(one, (pieces, 3, wire("0+ 1+")));
+}
+
+/// Its caller `take_vertices_to_intersections` goes by an edge without
+/// intersections, so that the cut is never made with an empty list.
+#[test]
+#[should_panic(expected = "called `Option::unwrap()` on a `None` value")]
+fn no_cut_panics() {
+    line_cut_at(&[]);
+}
+
+/// The join of these open wires over edges with these ends; both vertices are
+/// the same.
+fn join_at(v: usize, ends: &[(usize, usize)], open: [&str; 2], new: &[&str]) -> Option<Vec<Wire>> {
+    let new = new.iter().map(|notation| wire(notation)).collect();
+    ways::joined(new, (v, v), &all_edges(ends), open.map(wire).to_vec())
+}
+
+/// The first open wire is empty and is turned by one.
+#[test]
+#[should_panic(expected = "mid <= self.len()")]
+fn an_empty_first_open_wire_panics() {
+    join_at(0, &[(0, 0)], ["", "0+"], &[]);
+}
+
+#[test]
+fn empty_open_wires_are_not_joined() {
+    assert_eq!(join_at(0, &[], ["", ""], &[]), None);
+    assert_eq!(join_at(0, &[(0, 0)], ["0+", ""], &[]), None);
+    assert_eq!(join_at(0, &[(0, 0)], ["0+", ""], &["0+"]), None);
+    // v0 is at the second place of the second: the empty one becomes it.
+    assert_eq!(join_at(1, &[(0, 1)], ["", "0+ 0-"], &["0-"]), None);
+}
+
+/// v0 is at the second place of the first: the empty one takes its place and
+/// is turned by nothing.
+#[test]
+fn an_empty_second_open_wire_is_joined() {
+    let joined = vec![wire("0- 0- 0+")];
+    assert_eq!(join_at(1, &[(0, 1)], ["0+ 0-", ""], &["0-"]), Some(joined));
+}
