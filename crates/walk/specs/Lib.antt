@@ -1,2 +1,5 @@
 pub mod Walk
 pub mod Claim
+pub mod Ends
+pub mod Lists
+pub mod Answered
