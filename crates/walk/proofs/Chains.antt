@@ -102,8 +102,8 @@ without-last m u =
 module _ (front : ℕ → ℕ) (us : List ℕ) where
   -- ---- filling
 
-  pub lists-start : (hd nx : List ℕ) → length hd ≡ 4096 → length nx ≡ 1024 → ((v : ℕ) → getD hd v 0 ≡ 0) → ((p : ℕ) → getD nx p 0 ≡ 0) → Lists front us 0 hd nx []
-  lists-start hd nx lh ln eh en = record {
+  pub lists-start : {hd nx : List ℕ} → length hd ≡ 4096 → length nx ≡ 1024 → ((v : ℕ) → getD hd v 0 ≡ 0) → ((p : ℕ) → getD nx p 0 ≡ 0) → Lists front us 0 hd nx []
+  lists-start {hd} lh ln eh en = record {
     long-heads = lh;
     long-nexts = ln;
     tables = record { heads = λ v. omega (arith, eh v); nexts = λ p. omega (arith, en p) };
@@ -111,7 +111,7 @@ module _ (front : ℕ → ℕ) (us : List ℕ) where
     dropped = λ v e. omega (arith, eh v);
   }
 
-  pub lists-more : (hd nx : List ℕ) (i : ℕ) → Lists front us i hd nx (take i us) → i < length us → i < 1024 → front (getD us i 0) < 4096
+  lists-more : (hd nx : List ℕ) (i : ℕ) → Lists front us i hd nx (take i us) → i < length us → i < 1024 → front (getD us i 0) < 4096
       → Lists front us (i + 1) (set hd (front (getD us i 0)) (i + 2)) (set nx i (getD hd (front (getD us i 0)) 0 - 1)) (take (i + 1) us)
   lists-more hd nx i L lt in-nx in-hd =
       let hn : i < length nx = omega (arith, L .long-nexts) in
@@ -144,12 +144,12 @@ module _ (front : ℕ → ℕ) (us : List ℕ) where
         dropped = set-all (λ (y : ℕ). y ≢ 1) hd w (i + 2) (L .dropped) (λ e. omega arith);
       }
 
-  pub lists-more-to : (hd nx hd′ nx′ : List ℕ) (i w : ℕ) → Lists front us i hd nx (take i us) → i < length us → i < 1024 → w < 4096 → w ≡ front (getD us i 0)
+  pub lists-more-to : {hd nx hd′ nx′ : List ℕ} {i w : ℕ} → Lists front us i hd nx (take i us) → i < length us → i < 1024 → w < 4096 → w ≡ front (getD us i 0)
       → hd′ ≡ set hd w (i + 2) → nx′ ≡ set nx i (getD hd w 0 - 1) → Lists front us (i + 1) hd′ nx′ (take (i + 1) us)
-  lists-more-to hd nx hd′ nx′ i w L lt hn hh e eh en = rw (eh, en, e) (lists-more hd nx i L lt hn (rw e at hh))
+  lists-more-to {hd} {nx} {hd′} {nx′} {i} L lt hn hh e eh en = rw (eh, en, e) (lists-more hd nx i L lt hn (rw e at hh))
 
-  pub lists-done : (hd nx : List ℕ) (i : ℕ) → Lists front us i hd nx (take i us) → i ≡ length us → Lists front us (length us) hd nx us
-  lists-done hd nx i L e =
+  pub lists-done : {hd nx : List ℕ} {i : ℕ} → Lists front us i hd nx (take i us) → i ≡ length us → Lists front us (length us) hd nx us
+  lists-done {hd} {nx} {i} L e =
       let t : take i us ≡ us = take-all i us (omega arith) in
       subst (λ (l : List ℕ). Lists front us (length us) hd nx l) t (subst (λ (k : ℕ). Lists front us k hd nx (take i us)) e L)
 

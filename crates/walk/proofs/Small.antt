@@ -58,14 +58,14 @@ pub record Copied (made sizes : List ℕ) (n : ℕ) (out₀ out : List ℕ) (at 
   pub same : length out ≡ length out₀
   pub is : out ≡ take at made ++ drop at out₀
 
-module _ (made sizes : List ℕ) (n : ℕ) (out₀ : List ℕ) where
+module _ {made sizes : List ℕ} {n : ℕ} {out₀ : List ℕ} where
   pub copied-start : Copied made sizes n out₀ out₀ 0 0
   copied-start = record { k-le = omega arith; at-is = refl; at-le = omega arith; same = refl; is = refl }
 
-  pub copied-turn : (out ys : List ℕ) (at k m : ℕ) → Copied made sizes n out₀ out at k → k < n → n ≤ length sizes → total (take n sizes) ≤ length made → total (take n sizes) ≤ length out₀
+  pub copied-turn : {out ys : List ℕ} {at k m : ℕ} → Copied made sizes n out₀ out at k → k < n → n ≤ length sizes → total (take n sizes) ≤ length made → total (take n sizes) ≤ length out₀
       → m ≡ getD sizes k 0 → ys ≡ take m (take (length made - at) (drop at made)) ++ drop m (take (length out - at) (drop at out))
       → Copied made sizes n out₀ (take at out ++ (ys ++ drop (length out - at) (drop at out))) (at + m) (k + 1)
-  copied-turn out ys at k m C lt hn hm ho em ey =
+  copied-turn {out} {ys} {at} {k} {m} C lt hn hm ho em ey =
       let room : at + m ≤ total (take n sizes) = omega (arith, total-room sizes k n lt hn, C .at-is) in
       let whole : take (length made - at) (drop at made) ≡ drop at made = take-all (length made - at) (drop at made) (omega (arith, length-drop at made)) in
       let lp : length (take m (drop at made)) ≡ m = length-take-le m (drop at made) (omega (arith, length-drop at made)) in
@@ -81,14 +81,14 @@ module _ (made sizes : List ℕ) (n : ℕ) (out₀ : List ℕ) where
         is = laid;
       }
 
-  pub copied-done : (out : List ℕ) (at k : ℕ) → Copied made sizes n out₀ out at k → n ≤ k → out ≡ take (total (take n sizes)) made ++ drop (total (take n sizes)) out₀
-  copied-done out at k C h =
+  pub copied-done : {out : List ℕ} {at k : ℕ} → Copied made sizes n out₀ out at k → n ≤ k → out ≡ take (total (take n sizes)) made ++ drop (total (take n sizes)) out₀
+  copied-done {out} {at} {k} C h =
       let e : k ≡ n = omega (arith, C .k-le) in
       let t : at ≡ total (take n sizes) = C .at-is ∙ ap (λ (m : ℕ). total (take m sizes)) e in
       C .is ∙ ap (λ (m : ℕ). take m made ++ drop m out₀) t
 
 -- what the caller has checked, of the use u at a place of us
-module _ (en ds : List ℕ) (edges : ℕ) (ms us : List ℕ) (S : Sound en ds edges ms us) where
+module _ {en ds : List ℕ} {edges : ℕ} {ms us : List ℕ} (S : Sound en ds edges ms us) where
   pub front-small : (i : ℕ) → i < length us → frontOf en ds edges (getD us i 0) < 4096
   front-small i h = S .small i (getD us i 0 % 2) h (omega arith)
 

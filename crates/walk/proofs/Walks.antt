@@ -78,8 +78,9 @@ module _ (front back : ℕ → ℕ) (marked : ℕ → Bool) (us : List ℕ) wher
     pub last-at : last ≡ getD us place 0
     pub to : going front back marked (suc (length rest)) start last rest (drop from (take taken made)) ws ≡ walk front back marked us
 
-  pub between-start : (hd nx made sizes : List ℕ) → Lists front us (length us) hd nx us → length made ≡ 1024 → length sizes ≡ 1024 → Between hd nx made sizes 0 0 0
-  between-start hd nx made sizes L lm ls = record {
+module _ {front back : ℕ → ℕ} {marked : ℕ → Bool} {us : List ℕ} where
+  pub between-start : {hd nx made sizes : List ℕ} → Lists front us (length us) hd nx us → length made ≡ 1024 → length sizes ≡ 1024 → Between front back marked us hd nx made sizes 0 0 0
+  between-start L lm ls = record {
     rest = us;
     ws = [];
     lists = L;
@@ -95,13 +96,13 @@ module _ (front back : ℕ → ℕ) (marked : ℕ → Bool) (us : List ℕ) wher
     to = after-walk front back marked us;
   }
 
-  module _ (hd nx made sizes : List ℕ) (start taken n : ℕ) (B : Between hd nx made sizes start taken n) where
+  module _ {hd nx made sizes : List ℕ} {start taken n : ℕ} (B : Between front back marked us hd nx made sizes start taken n) where
     -- a vertex that is absent, or whose list is empty, has no uses left
     empty-at : (v : ℕ) → getD hd v 0 ≤ 1 → at front v (B .rest) ≡ []
     empty-at v h = chain-none front us nx (length us) v (getD hd v 0 - 1) (at front v (B .rest)) (omega arith) (B .lists .chains v)
 
-    pub between-some : (r : ℕ) → taken < length us → Lowest hd r → r < 4096
-    between-some r lt low =
+    pub between-some : {r : ℕ} → taken < length us → Lowest hd r → r < 4096
+    between-some {r} lt low =
         let no : ¬ (4096 ≤ r) = λ g.
         let e : B .rest ≡ [] = all-empty front (B .rest) (λ v. empty-at v (no-list v g)) in
         omega (arith, ap length e, B .count-is) in
@@ -110,9 +111,9 @@ module _ (front back : ℕ → ℕ) (marked : ℕ → Bool) (us : List ℕ) wher
         no-list : (v : ℕ) → 4096 ≤ r → getD hd v 0 ≤ 1
         no-list v g = less-or v r (λ h. low .below v h) (λ h. omega (arith, List·getD-eq-default hd 0 {n = v} (omega (arith, B .lists .long-heads))))
 
-    pub between-done : (r : Walked) → length us ≤ 1024 → length us ≤ taken → r ≡ walkedOf 0 n taken → Traced (walk front back marked us) (length us) made sizes r
+    pub between-done : {r : Walked} → length us ≤ 1024 → length us ≤ taken → r ≡ walkedOf 0 n taken → Traced (walk front back marked us) (length us) made sizes r
     unfolding Traced walkedOf
-    between-done r fits h er =
+    between-done fits h er =
         let e : B .rest ≡ [] = nil (B .rest) (omega (arith, B .count-is)) in
         subst (λ (x : Walked). Traced (walk front back marked us) (length us) made sizes x) (sym er) (
           record {
@@ -134,11 +135,11 @@ module _ (front back : ℕ → ℕ) (marked : ℕ → Bool) (us : List ℕ) wher
         nil (x ∷ l) h = absurd (omega arith)
 
     -- a wire begins, at the smallest vertex that has uses left
-    pub between-begin : (hd′ made′ : List ℕ) (r u : ℕ) → taken < length us → length us ≤ 1024 → Lowest hd r
+    pub between-begin : {hd′ made′ : List ℕ} {r u : ℕ} → taken < length us → length us ≤ 1024 → Lowest hd r
         → u ≡ getD us (getD hd r 0 - 2) 0 → hd′ ≡ set hd r (entryOf (getD nx (getD hd r 0 - 2) 0)) → made′ ≡ set made taken u
-        → Along hd′ nx made′ sizes r taken (taken + 1) n u
-    between-begin hd′ made′ r u lt few low eu eh em =
-        let small : r < 4096 = between-some r lt low in
+        → Along front back marked us hd′ nx made′ sizes r taken (taken + 1) n u
+    between-begin {hd′} {made′} {r} {u} lt few low eu eh em =
+        let small : r < 4096 = between-some lt low in
         let p = getD hd r 0 - 2 in
         let hp : getD hd r 0 ≡ p + 2 = omega (arith, low .has small) in
         let N = node front us (length us) hd nx (B .rest) (B .lists) r p hp in
@@ -171,11 +172,11 @@ module _ (front back : ℕ → ℕ) (marked : ℕ → Bool) (us : List ℕ) wher
               ∙ ap (λ (j : ℕ). going front back marked j r u rest′ (u ∷ []) (B .ws)) (sym sh) ∙ sym f ∙ B .to;
         }
 
-  module _ (hd nx made sizes : List ℕ) (start from taken n last : ℕ) (A : Along hd nx made sizes start from taken n last) where
+  module _ {hd nx made sizes : List ℕ} {start from taken n last : ℕ} (A : Along front back marked us hd nx made sizes start from taken n last) where
     -- the wire goes on with the use at index k of the list
     along-go : (hd′ nx′ made′ : List ℕ) (k u p : ℕ) (b : List ℕ) → length us ≤ 1024 → back last ≢ start → at front (back last) (A .rest) ≡ b → choose marked (marked last) b ≡ along k
         → k < length b → u ≡ getD b k 0 → p < length us → u ≡ getD us p 0 → Lists front us (length us) hd′ nx′ (del (sits front (back last)) k (A .rest))
-        → ((w : ℕ) → w < start → getD hd′ w 0 ≤ 1) → made′ ≡ set made taken u → Along hd′ nx′ made′ sizes start from (taken + 1) n u
+        → ((w : ℕ) → w < start → getD hd′ w 0 ≤ 1) → made′ ≡ set made taken u → Along front back marked us hd′ nx′ made′ sizes start from (taken + 1) n u
     along-go hd′ nx′ made′ k u p b fits d eb ec kb eu hp ep L low em =
         let rest′ = del (sits front (back last)) k (A .rest) in
         let sh : length (A .rest) ≡ suc (length rest′) = shorter (sits front (back last)) (A .rest) k (omega (arith, ap length eb)) in
@@ -211,7 +212,7 @@ module _ (front back : ℕ → ℕ) (marked : ℕ → Bool) (us : List ℕ) wher
     -- the last of the list
     along-last : (hd′ nx′ made′ : List ℕ) (k u p : ℕ) (b : List ℕ) → length us ≤ 1024 → back last < 4096 → back last ≢ start → getD hd (back last) 0 ≡ p + 2 → at front (back last) (A .rest) ≡ b
         → choose marked (marked last) b ≡ along k → k + 1 ≡ length b → getD us p 0 ≡ getD b k 0 → u ≡ getD us p 0
-        → hd′ ≡ set hd (back last) (entryOf (getD nx p 0)) → nx′ ≡ nx → made′ ≡ set made taken u → Along hd′ nx′ made′ sizes start from (taken + 1) n u
+        → hd′ ≡ set hd (back last) (entryOf (getD nx p 0)) → nx′ ≡ nx → made′ ≡ set made taken u → Along front back marked us hd′ nx′ made′ sizes start from (taken + 1) n u
     along-last hd′ nx′ made′ k u p b fits small d hp eb ec kb ep eu eh en em =
         let v = back last in
         let N = node front us (length us) hd nx (A .rest) (A .lists) v p hp in
@@ -221,19 +222,19 @@ module _ (front back : ℕ → ℕ) (marked : ℕ → Bool) (us : List ℕ) wher
         (λ w h. rw eh (low-last v p (entryOf (getD nx p 0)) hp w h)) em
 
     -- a step that takes a use
-    pub along-on : (s : Step) (hd′ nx′ made′ : List ℕ) (u : ℕ) → length us ≤ 1024 → back last < 4096 → back last ≢ start → Went marked us hd nx (back last) last s hd′ nx′
-        → causeOf s ≡ 0 → u ≡ useOf s → made′ ≡ set made taken u → Along hd′ nx′ made′ sizes start from (taken + 1) n u
-    along-on s hd′ nx′ made′ u fits small d (absent h e) es us-is em = absurd (omega (arith, sym (ap causeOf e) ∙ es))
-    along-on s hd′ nx′ made′ u fits small d (empty h e) es us-is em = absurd (omega (arith, sym (ap causeOf e) ∙ es))
-    along-on s hd′ nx′ made′ u fits small d (many p a b hp ha hb e) es us-is em = absurd (omega (arith, sym (ap causeOf e) ∙ es))
-    along-on s hd′ nx′ made′ u fits small d (one p hp hz e eh en) es us-is em =
+    pub along-on : {s : Step} {hd′ nx′ made′ : List ℕ} {u : ℕ} → length us ≤ 1024 → back last < 4096 → back last ≢ start → Went marked us hd nx (back last) last s hd′ nx′
+        → causeOf s ≡ 0 → u ≡ useOf s → made′ ≡ set made taken u → Along front back marked us hd′ nx′ made′ sizes start from (taken + 1) n u
+    along-on {s} {hd′} {nx′} {made′} {u} fits small d (absent h e) es us-is em = absurd (omega (arith, sym (ap causeOf e) ∙ es))
+    along-on {s} {hd′} {nx′} {made′} {u} fits small d (empty h e) es us-is em = absurd (omega (arith, sym (ap causeOf e) ∙ es))
+    along-on {s} {hd′} {nx′} {made′} {u} fits small d (many p a b hp ha hb e) es us-is em = absurd (omega (arith, sym (ap causeOf e) ∙ es))
+    along-on {s} {hd′} {nx′} {made′} {u} fits small d (one p hp hz e eh en) es us-is em =
         let x : hd′ ≡ set hd (back last) (entryOf (getD nx p 0)) = eh ∙ sym (ap (λ (j : ℕ). set hd (back last) (entryOf j)) hz) in
         along-last hd′ nx′ made′ 0 u p (getD us p 0 ∷ []) fits small d hp (one-only front us (length us) hd nx (A .rest) (A .lists) (back last) p hp hz) refl refl refl (us-is ∙ ap useOf e) x en em
-    along-on s hd′ nx′ made′ u fits small d (second p a hp ha hz hm e eh en) es us-is em =
+    along-on {s} {hd′} {nx′} {made′} {u} fits small d (second p a hp ha hz hm e eh en) es us-is em =
         let x : hd′ ≡ set hd (back last) (entryOf (getD nx p 0)) = eh ∙ ap (λ (j : ℕ). set hd (back last) j) (sym (entry-some (getD nx p 0) a ha)) in
         along-last hd′ nx′ made′ 1 u p (getD us a 0 ∷ getD us p 0 ∷ []) fits small d hp (two front us (length us) hd nx (A .rest) (A .lists) (back last) p hp a ha hz)
         (ap along (side-second (marked last) (marked (getD us a 0)) hm)) refl refl (us-is ∙ ap useOf e) x en em
-    along-on s hd′ nx′ made′ u fits small d (first p a hp ha hz hm e eh en) es us-is em =
+    along-on {s} {hd′} {nx′} {made′} {u} fits small d (first p a hp ha hz hm e eh en) es us-is em =
         let v = back last in
         let L = A .lists in
         let eu : u ≡ getD us a 0 = us-is ∙ ap useOf e in
@@ -245,44 +246,26 @@ module _ (front back : ℕ → ℕ) (marked : ℕ → Bool) (us : List ℕ) wher
         below2 : (p a : ℕ) → getD hd (back last) 0 ≡ p + 2 → getD nx p 0 ≡ a + 1 → a < length us
         below2 p a hp ha = omega (arith, A .lists .tables .nexts p)
 
-    some : (p : ℕ) → getD hd (back last) 0 ≡ p + 2 → taken < length us
-    some p hp =
-        let N = node front us (length us) hd nx (A .rest) (A .lists) (back last) p hp in
-        go (length (N .before)) (A .rest) (A .count-is) (ap length (N .is) ∙ length-append (N .before) (getD us p 0 ∷ []))
-      where
-        go : (m : ℕ) (l : List ℕ) → length l + taken ≡ length us → length (at front (back last) l) ≡ m + 1 → taken < length us
-        go m [] c e = absurd (omega arith)
-        go m (x ∷ l) c e = omega arith
-
-    -- it takes one that was left
-    pub along-room : (s : Step) (hd′ nx′ : List ℕ) → Went marked us hd nx (back last) last s hd′ nx′ → causeOf s ≡ 0 → taken < length us
-    along-room s hd′ nx′ (absent h e) es = absurd (omega (arith, sym (ap causeOf e) ∙ es))
-    along-room s hd′ nx′ (empty h e) es = absurd (omega (arith, sym (ap causeOf e) ∙ es))
-    along-room s hd′ nx′ (many p a b hp ha hb e) es = absurd (omega (arith, sym (ap causeOf e) ∙ es))
-    along-room s hd′ nx′ (one p hp hz e eh en) es = some p hp
-    along-room s hd′ nx′ (second p a hp ha hz hm e eh en) es = some p hp
-    along-room s hd′ nx′ (first p a hp ha hz hm e eh en) es = some p hp
-
     -- a step at which the walk stops
-    pub along-stop : (s : Step) (hd′ nx′ made′ sizes′ : List ℕ) (r : Walked) (m t : ℕ) → back last ≢ start → Went marked us hd nx (back last) last s hd′ nx′ → causeOf s ≢ 0
+    pub along-stop : {s : Step} {hd′ nx′ : List ℕ} {r : Walked} (made′ sizes′ : List ℕ) (m t : ℕ) → back last ≢ start → Went marked us hd nx (back last) last s hd′ nx′ → causeOf s ≢ 0
         → r ≡ walkedOf (causeOf s) m t → Traced (walk front back marked us) (length us) made′ sizes′ r
     unfolding Traced walkedOf
-    along-stop s hd′ nx′ made′ sizes′ r m t d (absent h e) es er =
+    along-stop made′ sizes′ m t d (absent h e) es er =
         subst (λ (x : Walked). Traced (walk front back marked us) (length us) made′ sizes′ x) (sym (er ∙ ap (λ (x : Step). walkedOf (causeOf x) m t) e))
         (sym (A .to) ∙ going-refused front back marked start last (A .rest) (drop from (take taken made)) (A .ws) (length (A .rest)) 11 [] d
         (chain-none front us nx (length us) (back last) (getD hd (back last) 0 - 1) (at front (back last) (A .rest)) (omega arith) (A .lists .chains (back last))) refl)
-    along-stop s hd′ nx′ made′ sizes′ r m t d (empty h e) es er = absurd (A .lists .dropped (back last) h)
-    along-stop s hd′ nx′ made′ sizes′ r m t d (many p a b hp ha hb e) es er =
+    along-stop made′ sizes′ m t d (empty h e) es er = absurd (A .lists .dropped (back last) h)
+    along-stop made′ sizes′ m t d (many p a b hp ha hb e) es er =
         subst (λ (x : Walked). Traced (walk front back marked us) (length us) made′ sizes′ x) (sym (er ∙ ap (λ (x : Step). walkedOf (causeOf x) m t) e))
         (sym (A .to) ∙ going-refused front back marked start last (A .rest) (drop from (take taken made)) (A .ws) (length (A .rest)) 12 (at front (back last) (A .rest)) d refl
         (many-refused marked (marked last) (at front (back last) (A .rest)) (three front us (length us) hd nx (A .rest) (A .lists) (back last) p hp a b ha hb)))
-    along-stop s hd′ nx′ made′ sizes′ r m t d (one p hp hz e eh en) es er = absurd (es (ap causeOf e))
-    along-stop s hd′ nx′ made′ sizes′ r m t d (second p a hp ha hz hm e eh en) es er = absurd (es (ap causeOf e))
-    along-stop s hd′ nx′ made′ sizes′ r m t d (first p a hp ha hz hm e eh en) es er = absurd (es (ap causeOf e))
+    along-stop made′ sizes′ m t d (one p hp hz e eh en) es er = absurd (es (ap causeOf e))
+    along-stop made′ sizes′ m t d (second p a hp ha hz hm e eh en) es er = absurd (es (ap causeOf e))
+    along-stop made′ sizes′ m t d (first p a hp ha hz hm e eh en) es er = absurd (es (ap causeOf e))
 
     -- the wire is closed
-    pub along-close : (sizes′ : List ℕ) → length us ≤ 1024 → back last ≡ start → sizes′ ≡ set sizes n (taken - from) → Between hd nx made sizes′ start taken (n + 1)
-    along-close sizes′ fits e es =
+    pub along-close : {sizes′ : List ℕ} → length us ≤ 1024 → back last ≡ start → sizes′ ≡ set sizes n (taken - from) → Between front back marked us hd nx made sizes′ start taken (n + 1)
+    along-close fits e es =
         let wire = drop from (take taken made) in
         let lw : length wire ≡ taken - from = length-drop from (take taken made) ∙ ap (λ (j : ℕ). j - from) (length-take-le taken made (omega (arith, A .count-is, A .long-made))) in
         let n-lt : n < length sizes = omega (arith, A .few, A .from-lt, A .count-is, A .long-sizes) in

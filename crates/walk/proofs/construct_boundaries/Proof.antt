@@ -1,18 +1,18 @@
 -- `walk::construct_boundaries` meets its contract. Assumes nothing.
-use Prim.Native.Nat.{_-_}
+use Prim.Native.Nat.{_+_, _-_}
 use mathlib.Core.Logic.{⊎-elim}
 use mathlib.Core.Path.{_≡_, refl, sym, _∙_}
-use lib.ListN.{length}
+use lib.ListN.{length, set}
 use native.Mathlib.Omega.{arith}
 use borrow.Author.Needs.{needs}
 use Rattle.walk.specs.Ends.{frontOf, backOf, markedOf}
 use Rattle.walk.proofs.Small.{zeros, front-small, back-small, edge-there, mark-there}
-use Rattle.walk.proofs.Walks.{Between, Along, between-start, between-some, between-begin, between-done, along-on, along-room, along-stop, along-close}
+use Rattle.walk.proofs.Walks.{Between, Along, between-start, between-some, between-begin, between-done, along-on, along-stop, along-close}
 use Rattle.walk.proofs.construct_boundaries.Statement.{statement}
 use Rattle.walk.proofs.construct_boundaries.Tie as tie
 
 abbrev Inv-loop : tie.InvT-loop
-Inv-loop edge-numbers edges divisor marks uses made₀ sizes head₀ next₀ cause₀ start taken₀ wires last₀ from made head next cause taken last = Along (frontOf edge-numbers divisor edges) (backOf edge-numbers divisor edges) (markedOf marks) uses head next made sizes start from taken wires last × (cause ≡ 0)
+Inv-loop edge-numbers edges divisor marks uses made₀ sizes head₀ next₀ cause₀ start taken₀ wires last₀ from made head next cause taken last = Along (frontOf edge-numbers divisor edges) (backOf edge-numbers divisor edges) (markedOf marks) uses head next (set made taken last) sizes start from (taken + 1) wires last × (cause ≡ 0)
 
 abbrev μ-loop : tie.MeasureT-loop
 μ-loop edge-numbers edges divisor marks uses made₀ sizes head₀ next₀ cause₀ start taken₀ wires last₀ from made head next cause taken last = length uses - taken
@@ -26,45 +26,44 @@ abbrev μ-walk : tie.MeasureT-walk
 create-vemap-requires : tie.Need-create-vemap-requires Inv-loop μ-loop Inv-walk μ-walk
 create-vemap-requires c κs =
     let s = c .before .before .before .before .before .before .pre .0 in
-    ((s .few, s .there, front-small _ _ _ _ _ s), (refl, refl, zeros 4096, zeros 1024))
+    ((s .few, s .there, front-small s), (refl, refl, zeros 4096, zeros 1024))
 
 walk-holds : tie.Need-walk-holds Inv-loop μ-loop Inv-walk μ-walk
-walk-holds c = (between-start _ _ _ _ _ _ _ _ (c .create-vemap .ensures) (c .before .before .before .before .before .before .before .pre .1 .0) (c .before .before .before .before .before .before .before .pre .1 .1), refl)
+walk-holds c = (between-start (c .create-vemap .ensures) (c .before .before .before .before .before .before .before .pre .1 .0) (c .before .before .before .before .before .before .before .pre .1 .1), refl)
 
 lowest-requires : tie.Need-lowest-requires Inv-loop μ-loop Inv-walk μ-walk
 lowest-requires c κs = (c .before .before .walk .inv .0 .start-le, c .before .before .walk .inv .0 .low)
 
 pop-requires : tie.Need-pop-requires Inv-loop μ-loop Inv-walk μ-walk
 pop-requires c κs =
-    let w = c .before .before .before .before .before .walk in
+    let b = c .before .before .before .before .before .walk .inv .0 in
     let low = c .before .before .lowest .ensures in
-    let small = between-some _ _ _ _ _ _ _ _ _ _ _ (w .inv .0) (c .before .before .lowest .result) (c .before .before .before .before .walk-test .taken) low in
-    ((small, c .before .before .before .before .before .before .before .before .before .before .before .before .before .pre .0 .few, low .has small), w .inv .0 .lists .tables)
-
-mul-made : tie.Need-mul-made Inv-loop μ-loop Inv-walk μ-walk
-mul-made c = omega (arith, c .before .before .before .before .before .before .before .before .before .before .before .before .before .before .pre .0 .few)
-
-element-write-made : tie.Need-element-write-made Inv-loop μ-loop Inv-walk μ-walk
-element-write-made c = omega (arith, c .before .before .before .before .before .before .before .before .before .before .before .before .before .before .pre .0 .few)
-
-add-taken : tie.Need-add-taken Inv-loop μ-loop Inv-walk μ-walk
-add-taken c = omega (arith, c .before .before .before .before .before .before .before .before .before .before .before .before .before .before .pre .0 .few)
+    let small = between-some b (c .before .before .before .before .walk-test .taken) low in
+    ((small, c .before .before .before .before .before .before .before .before .before .before .before .before .before .pre .0 .few, low .has small), b .lists .tables)
 
 loop-holds : tie.Need-loop-holds Inv-loop μ-loop Inv-walk μ-walk
-loop-holds c =
-    let w = c .before .before .before .before .before .before .walk in
-    (between-begin _ _ _ _ _ _ _ _ _ _ _ (w .inv .0) _ _ (c .before .before .before .lowest .result) (c .pop .result) (c .before .before .before .before .before .walk-test .taken) (c .before .before .before .before .before .before .before .before .before .before .before .before .before .before .pre .0 .few) (c .before .before .before .lowest .ensures) (c .pop .ensures .0) (c .pop .ensures .1) refl, w .inv .1)
+loop-holds c = (between-begin (c .before .before .before .before .before .before .walk .inv .0) (c .before .before .before .before .before .walk-test .taken) (c .before .before .before .before .before .before .before .before .before .before .before .before .before .before .pre .0 .few) (c .before .before .before .lowest .ensures) (c .pop .ensures .0) (c .pop .ensures .1) refl, c .before .before .before .before .before .before .walk .inv .1)
+
+mul-made : tie.Need-mul-made Inv-loop μ-loop Inv-walk μ-walk
+mul-made c = omega (arith, c .loop .inv .0 .count-is, c .before .before .before .before .before .before .before .before .before .before .before .before .before .before .before .pre .0 .few)
+
+element-write-made : tie.Need-element-write-made Inv-loop μ-loop Inv-walk μ-walk
+element-write-made c = omega (arith, c .loop .inv .0 .count-is, c .before .before .before .before .before .before .before .before .before .before .before .before .before .before .before .pre .0 .few)
+
+add-taken : tie.Need-add-taken Inv-loop μ-loop Inv-walk μ-walk
+add-taken c = omega (arith, c .loop .inv .0 .count-is, c .before .before .before .before .before .before .before .before .before .before .before .before .before .before .before .pre .0 .few)
 
 back-requires : tie.Need-back-requires Inv-loop μ-loop Inv-walk μ-walk
 back-requires c κs =
     let a = c .loop .inv .0 in
-    edge-there _ _ _ _ _ (c .before .before .before .before .before .before .before .before .before .before .before .before .before .before .before .pre .0) (a .place) (c .loop .last) (a .place-lt) (a .last-at)
+    edge-there (c .before .before .before .before .before .before .before .before .before .before .before .before .before .before .before .pre .0) (a .place) (c .loop .last) (a .place-lt) (a .last-at)
 
 onward-requires : tie.Need-onward-requires Inv-loop μ-loop Inv-walk μ-walk
 onward-requires c κs =
-    let a = c .before .before .before .before .loop .inv .0 in
+    let l = c .before .before .before .before .loop in
+    let a = l .inv .0 in
     let s = c .before .before .before .before .before .before .before .before .before .before .before .before .before .before .before .before .before .before .before .pre .0 in
-    ((omega (arith, c .before .before .before .back .ensures, back-small _ _ _ _ _ s (a .place) (c .before .before .before .before .loop .last) (a .place-lt) (a .last-at)), s .few, mark-there _ _ _ _ _ s (a .place) (c .before .before .before .before .loop .last) (a .place-lt) (a .last-at)), (s .marks, a .lists .tables))
+    ((omega (arith, c .before .before .before .back .ensures, back-small s (a .place) (l .last) (a .place-lt) (a .last-at)), s .few, mark-there s (a .place) (l .last) (a .place-lt) (a .last-at)), (s .marks, a .lists .tables))
 
 step-cause-requires : tie.Need-step-cause-requires Inv-loop μ-loop Inv-walk μ-walk
 step-cause-requires c κs = search needs
@@ -72,17 +71,8 @@ step-cause-requires c κs = search needs
 step-use-requires : tie.Need-step-use-requires Inv-loop μ-loop Inv-walk μ-walk
 step-use-requires c κs = search needs
 
-mul-made-2 : tie.Need-mul-made-2 Inv-loop μ-loop Inv-walk μ-walk
-mul-made-2 c = omega (arith, c .before .before .before .before .before .before .before .before .before .before .before .before .before .before .before .before .before .before .before .before .before .before .before .pre .0 .few, along-room _ _ _ _ _ _ _ _ _ _ _ _ _ (c .before .before .before .before .before .before .before .before .loop .inv .0) (c .before .before .before .onward .result) _ _ (rw (c .before .before .before .before .before .before .before .back .ensures) at (c .before .before .before .onward .ensures)) (sym (c .before .before .step-cause .ensures) ∙ c .before .if2 .left))
-
-element-write-made-2 : tie.Need-element-write-made-2 Inv-loop μ-loop Inv-walk μ-walk
-element-write-made-2 c = omega (arith, c .before .before .before .before .before .before .before .before .before .before .before .before .before .before .before .before .before .before .before .before .before .before .before .pre .0 .few, along-room _ _ _ _ _ _ _ _ _ _ _ _ _ (c .before .before .before .before .before .before .before .before .loop .inv .0) (c .before .before .before .onward .result) _ _ (rw (c .before .before .before .before .before .before .before .back .ensures) at (c .before .before .before .onward .ensures)) (sym (c .before .before .step-cause .ensures) ∙ c .before .if2 .left))
-
-add-taken-2 : tie.Need-add-taken-2 Inv-loop μ-loop Inv-walk μ-walk
-add-taken-2 c = omega (arith, c .before .before .before .before .before .before .before .before .before .before .before .before .before .before .before .before .before .before .before .before .before .before .before .pre .0 .few, along-room _ _ _ _ _ _ _ _ _ _ _ _ _ (c .before .before .before .before .before .before .before .before .loop .inv .0) (c .before .before .before .onward .result) _ _ (rw (c .before .before .before .before .before .before .before .back .ensures) at (c .before .before .before .onward .ensures)) (sym (c .before .before .step-cause .ensures) ∙ c .before .if2 .left))
-
 loop-less : tie.Need-loop-less Inv-loop μ-loop Inv-walk μ-walk
-loop-less c = omega (arith, c .before .before .before .before .before .before .before .before .before .before .before .before .before .before .before .before .before .before .before .before .before .before .before .pre .0 .few, along-room _ _ _ _ _ _ _ _ _ _ _ _ _ (c .before .before .before .before .before .before .before .before .loop .inv .0) (c .before .before .before .onward .result) _ _ (rw (c .before .before .before .before .before .before .before .back .ensures) at (c .before .before .before .onward .ensures)) (sym (c .before .before .step-cause .ensures) ∙ c .before .if2 .left))
+loop-less c = omega (arith, c .before .before .before .before .before .before .before .before .loop .inv .0 .count-is)
 
 loop-again : tie.Need-loop-again Inv-loop μ-loop Inv-walk μ-walk
 loop-again c =
@@ -90,7 +80,7 @@ loop-again c =
     let a = l .inv .0 in
     let s = c .before .before .before .before .before .before .before .before .before .before .before .before .before .before .before .before .before .before .before .before .before .before .before .pre .0 in
     let e = c .before .before .before .before .before .before .before .back .ensures in
-    (along-on _ _ _ _ _ _ _ _ _ _ _ _ _ a (c .before .before .before .onward .result) _ _ _ (c .step-use .result) (s .few) (back-small _ _ _ _ _ s (a .place) (l .last) (a .place-lt) (a .last-at)) (λ g. c .before .before .before .before .before .before .if1 .left (e ∙ g)) (rw e at (c .before .before .before .onward .ensures)) (sym (c .before .before .step-cause .ensures) ∙ c .before .if2 .left) (c .step-use .ensures) refl, c .before .if2 .left)
+    (along-on a (s .few) (back-small s (a .place) (l .last) (a .place-lt) (a .last-at)) (λ g. c .before .before .before .before .before .before .if1 .left (e ∙ g)) (rw e at (c .before .before .before .onward .ensures)) (sym (c .before .before .step-cause .ensures) ∙ c .before .if2 .left) (c .step-use .ensures) refl, c .before .if2 .left)
 
 sub-sizes : tie.Need-sub-sizes Inv-loop μ-loop Inv-walk μ-walk
 sub-sizes c = omega (arith, c .before .before .loop .inv .0)
@@ -111,9 +101,7 @@ walk-less : tie.Need-walk-less Inv-loop μ-loop Inv-walk μ-walk
 walk-less c = omega (arith, c .before .before .loop .inv .0, c .before .before .before .before .before .before .before .before .before .before .before .before .before .before .before .before .before .pre .0 .few)
 
 walk-again : tie.Need-walk-again Inv-loop μ-loop Inv-walk μ-walk
-walk-again c =
-    let l = c .before .before .loop in
-    (along-close _ _ _ _ _ _ _ _ _ _ _ _ _ (l .inv .0) _ (c .before .before .before .before .before .before .before .before .before .before .before .before .before .before .before .before .before .pre .0 .few) (sym (c .before .back .ensures) ∙ c .if1 .taken) refl, l .inv .1)
+walk-again c = (along-close (c .before .before .loop .inv .0) (c .before .before .before .before .before .before .before .before .before .before .before .before .before .before .before .before .before .pre .0 .few) (sym (c .before .back .ensures) ∙ c .if1 .taken) refl, c .before .before .loop .inv .1)
 
 answer-requires : tie.Need-answer-requires Inv-loop μ-loop Inv-walk μ-walk
 answer-requires c κs = search needs
@@ -122,10 +110,10 @@ returns : tie.Need-returns Inv-loop μ-loop Inv-walk μ-walk
 returns c =
     let i = c .before .before .walk .inv in
     ⊎-elim
-    (λ w. rw (w .1) (between-done _ _ _ _ _ _ _ _ _ _ _ (i .0) (c .answer .result) (c .before .before .before .before .before .before .before .before .before .before .pre .0 .few) (w .0 .left) (rw (w .2, i .1, w .4) at (c .answer .ensures))))
+    (λ w. rw (w .1) (between-done (i .0) (c .before .before .before .before .before .before .before .before .before .before .pre .0 .few) (w .0 .left) (rw (w .2, i .1, w .4) at (c .answer .ensures))))
     (λ w.
     let e = w .7 .ensures in
-    along-stop _ _ _ _ _ _ _ _ _ _ _ _ _ (w .6 .inv .0) (w .11 .result) _ _ _ _ (c .answer .result) _ _ (λ g. w .8 .left (e ∙ g)) (rw e at (w .11 .ensures)) (λ g. w .13 .taken (w .12 .ensures ∙ g)) (rw (w .15, w .12 .ensures) at (c .answer .ensures)))
+    along-stop (w .6 .inv .0) _ _ _ _ (λ g. w .8 .left (e ∙ g)) (rw e at (w .11 .ensures)) (λ g. w .13 .taken (w .12 .ensures ∙ g)) (rw (w .15, w .12 .ensures) at (c .answer .ensures)))
     (c .before .walk-test .came)
 
 pub construct-boundaries-spec : {M : Type 1} → statement M
@@ -140,17 +128,14 @@ construct-boundaries-spec =
     walk-holds
     lowest-requires
     pop-requires
+    loop-holds
     mul-made
     element-write-made
     add-taken
-    loop-holds
     back-requires
     onward-requires
     step-cause-requires
     step-use-requires
-    mul-made-2
-    element-write-made-2
-    add-taken-2
     loop-less
     loop-again
     sub-sizes

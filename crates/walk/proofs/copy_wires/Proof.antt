@@ -14,7 +14,7 @@ abbrev μ-loop : tie.MeasureT-loop
 μ-loop made sizes n out₀ at₀ k₀ out at k = n - k
 
 loop-holds : tie.Need-loop-holds Inv-loop μ-loop
-loop-holds c = copied-start _ _ _ _
+loop-holds c = copied-start
 
 mul-index : tie.Need-mul-index Inv-loop μ-loop
 mul-index c = omega arith
@@ -68,15 +68,14 @@ loop-less c = omega arith
 
 loop-again : tie.Need-loop-again Inv-loop μ-loop
 loop-again c =
-    let s = c .before .before .before .before .before .before .before .before .before .before .before .before in
-    let l = c .before .before .before .before .before .before .before .before .loop in
-    copied-turn _ _ _ _ (l .out) (c .before .before .copy .last .1 .1 .0) (l .at) (l .k) _ (l .inv) (c .before .before .before .before .before .before .before .loop-test .taken) (s .pre .0) (s .pre .1) (s .pre .2) (c .before .before .before .before .before .index .ensures) (c .before .before .copy .ensures)
+    let s = c .before .before .before .before .before .before .before .before .before .before .before .before .pre in
+    copied-turn (c .before .before .before .before .before .before .before .before .loop .inv) (c .before .before .before .before .before .before .before .loop-test .taken) (s .0) (s .1) (s .2) (c .before .before .before .before .before .index .ensures) (c .before .before .copy .ensures)
 
 same-length : tie.Need-same-length Inv-loop μ-loop
 same-length c = omega (arith, c .before .loop .inv)
 
 returns : tie.Need-returns Inv-loop μ-loop
-returns c = copied-done _ _ _ _ _ _ _ (c .before .loop .inv) (c .loop-test .left)
+returns c = copied-done (c .before .loop .inv) (c .loop-test .left)
 
 pub copy-wires-spec : {M : Type 1} → statement M
 copy-wires-spec =

@@ -15,7 +15,7 @@ abbrev μ-loop : tie.MeasureT-loop
 μ-loop edge-numbers divisor edges uses head₀ next₀ i₀ head next i = length uses - i
 
 loop-holds : tie.Need-loop-holds Inv-loop μ-loop
-loop-holds c = (omega arith, lists-start _ _ _ _ (c .before .before .before .pre .1 .0) (c .before .before .before .pre .1 .1) (c .before .before .before .pre .1 .2) (c .before .before .before .pre .1 .3))
+loop-holds c = (omega arith, lists-start _ _ (c .before .before .before .pre .1 .0) (c .before .before .before .pre .1 .1) (c .before .before .before .pre .1 .2) (c .before .before .before .pre .1 .3))
 
 mul-front : tie.Need-mul-front Inv-loop μ-loop
 mul-front c = omega arith
@@ -40,10 +40,10 @@ loop-again c =
     let l = c .before .before .before .before .before .before .loop in
     let v = c .before .before .before .front in
     let small = c .before .before .before .before .before .before .before .before .before .before .pre .0 .2 (l .i) (c .before .before .before .before .before .loop-test .taken) in
-    (omega arith, lists-more-to _ _ (l .head) (l .next) _ _ (l .i) (v .result) (l .inv .1) (c .before .before .before .before .before .loop-test .taken) (omega arith) (omega (arith, v .ensures)) (v .ensures) (c .push .ensures .0) (c .push .ensures .1))
+    (omega arith, lists-more-to _ _ (l .inv .1) (c .before .before .before .before .before .loop-test .taken) (omega arith) (omega (arith, v .ensures)) (v .ensures) (c .push .ensures .0) (c .push .ensures .1))
 
 returns : tie.Need-returns Inv-loop μ-loop
-returns c = lists-done _ _ _ _ (c .before .loop .i) (c .before .loop .inv .1) (omega arith)
+returns c = lists-done _ _ (c .before .loop .inv .1) (omega arith)
 
 pub create-vemap-spec : {M : Type 1} → statement M
 create-vemap-spec =
