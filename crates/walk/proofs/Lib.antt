@@ -5,3 +5,4 @@ pub mod Small
 pub mod Chains
 pub mod Steps
 pub mod Walks
+pub mod Copying

@@ -1,4 +1,5 @@
 -- `walk::construct_boundaries` meets its contract. Assumes nothing.
+-- The inner loop's invariant speaks of the wire with the use `last`, which the loop stores first.
 use Prim.Native.Nat.{_+_, _-_}
 use mathlib.Core.Logic.{⊎-elim}
 use mathlib.Core.Path.{_≡_, refl, sym, _∙_}
@@ -45,13 +46,13 @@ loop-holds : tie.Need-loop-holds Inv-loop μ-loop Inv-walk μ-walk
 loop-holds c = (between-begin (c .before .before .before .before .before .before .walk .inv .0) (c .before .before .before .before .before .walk-test .taken) (c .before .before .before .before .before .before .before .before .before .before .before .before .before .before .pre .0 .few) (c .before .before .before .lowest .ensures) (c .pop .ensures .0) (c .pop .ensures .1) refl, c .before .before .before .before .before .before .walk .inv .1)
 
 mul-made : tie.Need-mul-made Inv-loop μ-loop Inv-walk μ-walk
-mul-made c = omega (arith, c .loop .inv .0 .count-is, c .before .before .before .before .before .before .before .before .before .before .before .before .before .before .before .pre .0 .few)
+mul-made c = omega (arith, c .loop .inv .0, c .before .before .before .before .before .before .before .before .before .before .before .before .before .before .before .pre .0 .few)
 
 element-write-made : tie.Need-element-write-made Inv-loop μ-loop Inv-walk μ-walk
-element-write-made c = omega (arith, c .loop .inv .0 .count-is, c .before .before .before .before .before .before .before .before .before .before .before .before .before .before .before .pre .0 .few)
+element-write-made c = omega (arith, c .loop .inv .0, c .before .before .before .before .before .before .before .before .before .before .before .before .before .before .before .pre .0 .few)
 
 add-taken : tie.Need-add-taken Inv-loop μ-loop Inv-walk μ-walk
-add-taken c = omega (arith, c .loop .inv .0 .count-is, c .before .before .before .before .before .before .before .before .before .before .before .before .before .before .before .pre .0 .few)
+add-taken c = omega (arith, c .loop .inv .0, c .before .before .before .before .before .before .before .before .before .before .before .before .before .before .before .pre .0 .few)
 
 back-requires : tie.Need-back-requires Inv-loop μ-loop Inv-walk μ-walk
 back-requires c κs =

@@ -3,7 +3,7 @@ use Prim.Native.Nat.{_-_}
 use lib.ListN.{length-take, length-drop}
 use native.Mathlib.Omega.{arith}
 use borrow.Author.Needs.{needs}
-use Rattle.walk.proofs.Small.{Copied, copied-start, copied-turn, copied-done, total-room}
+use Rattle.walk.proofs.Copying.{Copied, copied-start, copied-turn, copied-done, total-room}
 use Rattle.walk.proofs.copy_wires.Statement.{statement}
 use Rattle.walk.proofs.copy_wires.Tie as tie
 
