@@ -4,3 +4,8 @@ pub mod Buckets
 pub mod Same
 pub mod Balance
 pub mod Tabled
+pub mod Small
+pub mod Chains
+pub mod Steps
+pub mod Walks
+pub mod Copying
