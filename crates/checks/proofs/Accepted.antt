@@ -93,6 +93,12 @@ vertices-accepted ns fs n e =
       rows = λ i h. row i h .2;
     }
 
+-- the first n uses
+pub uses-in : (e : ℕ) (us : List ℕ) (n k : ℕ) → usesCause e us n ≡ 0 → k < n → getD us k 0 / 2 < e
+unfolding usesCause
+uses-in e us n k q h =
+    leb-false e (getD us k 0 / 2) (not-when (leb e (getD us k 0 / 2)) 2 (lowest-none (λ j. edgeNumberCause e (getD us j 0 / 2)) n k q h))
+
 -- n wires over m edges
 pub record WiresAccepted (m : ℕ) (us ls : List ℕ) (n : ℕ) : Type 0 where
   pub below : n ≤ 64
@@ -102,7 +108,7 @@ pub record WiresAccepted (m : ℕ) (us ls : List ℕ) (n : ℕ) : Type 0 where
   pub edges : (k : ℕ) → k < total (take n ls) → getD us k 0 / 2 < m
 
 pub wires-accepted : (m : ℕ) (us ls : List ℕ) (n : ℕ) → wiresCause m us ls n ≡ 0 → WiresAccepted m us ls n
-unfolding wiresCause usesCause
+unfolding wiresCause
 wires-accepted m us ls n e =
     let t = total (take n ls) in
     let a = passed (ltb 64 n) _ e in
@@ -114,8 +120,7 @@ wires-accepted m us ls n e =
       lengths = ltb-false (length ls) n (b .0);
       few = ltb-false 1024 t (c .0);
       uses = ltb-false (length us) t (d .0);
-      edges = λ k h.
-          leb-false m (getD us k 0 / 2) (not-when (leb m (getD us k 0 / 2)) 2 (lowest-none (λ j. edgeNumberCause m (getD us j 0 / 2)) t k (d .1) h));
+      edges = λ k h. uses-in m us t k (d .1) h;
     }
 
 -- the ends of an edge without a cause

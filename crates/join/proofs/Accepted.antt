@@ -2,27 +2,22 @@
 -- Assumes nothing.
 use mathlib.Core.Path.{_≡_}
 use mathlib.Core.List.{List}
-use Prim.Native.Nat.{ℕ, _+_, _/_, _≤_, _<_}
+use Prim.Native.Nat.{ℕ, _+_, _≤_, _<_}
 use native.Mathlib.Omega.{arith}
-use borrow.Author.Tests.{ltb-false, leb-false, eqb-false}
-use lib.Dec.{eqb, leb, ltb}
-use lib.ListN.{length, getD, take}
+use borrow.Author.Tests.{ltb-false, eqb-false}
+use lib.Dec.{eqb, ltb}
+use lib.ListN.{length, take}
 use lib.Seq.{getD-take, length-take-le}
 use lib.Ieee.{Float}
 use Rattle.compress.specs.Wires.{total}
-use Rattle.checks.specs.Causes.{when, countCause, vertexNumberCause, edgesCause, usesCause, edgeNumberCause}
-use Rattle.checks.proofs.Accepted.{EdgesAccepted, passed, not-when, edges-accepted}
-use Rattle.checks.proofs.Lowest.{lower-none, lowest-none}
+use Rattle.checks.specs.Causes.{when, countCause, vertexNumberCause, edgesCause, usesCause}
+use Rattle.checks.proofs.Accepted.{EdgesAccepted, passed, not-when, edges-accepted, uses-in}
+use Rattle.checks.proofs.Lowest.{lower-none}
 use Rattle.checks.proofs.Small.{when-small, pick-small, lower-small, count-small, vertex-number-small, edges-small, uses-small}
 use Rattle.join.specs.Contract.{joinWiresCause, emptyCause, joinCause}
 use Rattle.join.specs.Steps.{Readable, Joinable}
 
 -- uses without a cause
-uses-in : (e : ℕ) (us : List ℕ) (n k : ℕ) → usesCause e us n ≡ 0 → k < n → getD us k 0 / 2 < e
-unfolding usesCause
-uses-in e us n k q h =
-    leb-false e (getD us k 0 / 2) (not-when (leb e (getD us k 0 / 2)) 2 (lowest-none (λ j. edgeNumberCause e (getD us j 0 / 2)) n k q h))
-
 uses-rows : (v : ℕ) (en : List ℕ) (ef : List Float) (e : ℕ) (us : List ℕ) (n : ℕ) → EdgesAccepted v en ef e → n ≤ length us → usesCause e us n ≡ 0
     → Readable en ef (take n us)
 uses-rows v en ef e us n A h q k lt =

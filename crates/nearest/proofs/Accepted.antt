@@ -9,9 +9,9 @@ use lib.Dec.{leb, ltb}
 use lib.ListN.{length, getD, take}
 use lib.Seq.{getD-take, length-take-le}
 use lib.Ieee.{Float}
-use Rattle.checks.specs.Causes.{verticesCause, edgesCause, usesCause, vertexNumberCause, pendingCause, edgeNumberCause}
-use Rattle.checks.proofs.Accepted.{passed, not-when}
-use Rattle.checks.proofs.Lowest.{lower-none, lowest-none}
+use Rattle.checks.specs.Causes.{verticesCause, edgesCause, usesCause, vertexNumberCause, pendingCause}
+use Rattle.checks.proofs.Accepted.{passed, not-when, uses-in}
+use Rattle.checks.proofs.Lowest.{lower-none}
 use Rattle.checks.proofs.Small.{lower-small, pick-small, vertices-small, edges-small, pending-small, uses-small, vertex-number-small}
 use Rattle.nearest.specs.Ends.{stretchesCause, tablesCause, endsCause}
 
@@ -32,13 +32,7 @@ unfolding tablesCause
 tables-small vn vf en ef v e =
     lower-small (verticesCause vn vf v) _ (vertices-small vn vf v) (lower-small (edgesCause v en ef e) _ (edges-small v en ef e) (pending-small vn v))
 
--- the uses of a stretch without a cause
-pub uses-in : (e : ℕ) (us : List ℕ) (n k : ℕ) → usesCause e us n ≡ 0 → k < n → getD us k 0 / 2 < e
-unfolding usesCause
-uses-in e us n k q h =
-    leb-false e (getD us k 0 / 2) (not-when (leb e (getD us k 0 / 2)) 2 (lowest-none (λ j. edgeNumberCause e (getD us j 0 / 2)) n k q h))
-
--- its front of n uses
+-- a stretch without a cause: its front of n uses
 pub record Stretch (e : ℕ) (us : List ℕ) (n : ℕ) : Type 0 where
   pub lent : n ≤ length us
   pub size : length (take n us) ≡ n

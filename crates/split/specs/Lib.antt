@@ -2,3 +2,4 @@
 pub mod Seams
 pub mod Split
 pub mod Contract
+pub mod Demand

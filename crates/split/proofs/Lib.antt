@@ -1,0 +1,2 @@
+-- The laws of the split.
+pub mod Accepted
