@@ -15,7 +15,7 @@ use Rattle.checks.specs.Causes.{when, lowestOf, countCause, vertexNumberCause, 
 use Rattle.checks.proofs.Accepted.{EdgesAccepted, passed, not-when, edges-accepted, uses-in}
 use Rattle.checks.proofs.Lowest.{lower-none, lowest-none}
 use Rattle.split.specs.Seams.{stopAt, repeatsAfter}
-use Rattle.split.specs.Contract.{LentSplit, faceTotal, rebuiltTotal, pairs, splitWiresCause, stopCause, stopsCause, splitInputCause, splitCount, splitRoomCause, oddCause, repeatCause, thenCause, splitCause}
+use Rattle.split.specs.Contract.{LentSplit, faceTotal, rebuiltTotal, pairs, splitWiresCause, stopCause, stopsCause, splitInputCause, splitCount, roomCause, splitRoomCause, oddCause, repeatCause, thenCause, splitCause}
 
 pub then-none : (a b : ℕ) → thenCause a b ≡ 0 → (a ≡ 0) × (b ≡ 0)
 then-none zero b e = (refl, e)
@@ -52,7 +52,7 @@ unfolding splitInputCause splitWiresCause stopsCause
 input-accepted l q =
     let a = lower-none (when (ltb 4096 (l .vertices)) 1) _ q in
     let b = lower-none (edgesCause (l .vertices) (l .buffers .en) (l .buffers .ef) (l .edges)) _ (a .1) in
-    let c = lower-none (splitWiresCause l) (stopsCause (l .vertices) (l .divisor) (l .points) (l .stops)) (b .1) in
+    let c = lower-none (splitWiresCause (l .edges) (l .faceUses) (l .faceLengths) (l .faceWires) (l .rebuiltUses) (l .rebuiltLengths) (l .rebuiltWires)) (stopsCause (l .vertices) (l .divisor) (l .points) (l .stops)) (b .1) in
     let w₁ = passed (ltb 64 (l .faceWires + l .rebuiltWires)) _ (c .0) in
     let w₂ = passed (ltb (length (l .faceLengths)) (l .faceWires)) _ (w₁ .1) in
     let w₃ = passed (ltb (length (l .rebuiltLengths)) (l .rebuiltWires)) _ (w₂ .1) in
@@ -86,7 +86,7 @@ pub record SplitRoom (l : LentSplit) : Type 0 where
   pub edges : edgesFit (l .buffers .en) (l .buffers .ef) (l .edges + pairs l) ≡ true
 
 pub room : (l : LentSplit) → splitRoomCause l ≡ 0 → SplitRoom l
-unfolding splitRoomCause
+unfolding roomCause
 room l q =
     let a = roomy (ltb 1024 (splitCount l)) _ q in
     let b = roomy (ltb (length (l .buffers .us)) (splitCount l)) _ (a .1) in

@@ -1,2 +1,5 @@
 -- The laws of the split.
 pub mod Accepted
+pub mod Marks
+pub mod Adding
+pub mod Repeats

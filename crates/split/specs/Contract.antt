@@ -38,6 +38,11 @@ pub record Buffers : Type 0 where
   pub us : List ℕ
   pub ls : List ℕ
 
+-- what a call leaves: its answer, and the contents of these slices
+pub record SplitOutcome : Type 0 where
+  pub said : Said SplitCounts
+  pub buffers : Buffers
+
 -- what a call is lent beside these: the face's wires and the wires to be rebuilt, the vertices on the divisor with their uv points, and counts
 pub record LentSplit : Type 0 where
   pub buffers : Buffers
@@ -53,6 +58,29 @@ pub record LentSplit : Type 0 where
   pub rebuiltWires : ℕ
   pub stops : ℕ
   pub surface : ℕ
+
+-- the slices and numbers of a call, as one record
+abbrev pub lentSplit : List ℕ → List Float → List ℕ → List ℕ → List ℕ → List ℕ → List ℕ → List Float → List ℕ → List ℕ → ℕ → ℕ → ℕ → ℕ → ℕ → ℕ → LentSplit
+lentSplit en ef fu fl ru rl ds fs us ls v e fw rw n s =
+    record {
+      buffers = record { en = en; ef = ef; us = us; ls = ls };
+      faceUses = fu;
+      faceLengths = fl;
+      rebuiltUses = ru;
+      rebuiltLengths = rl;
+      divisor = ds;
+      points = fs;
+      vertices = v;
+      edges = e;
+      faceWires = fw;
+      rebuiltWires = rw;
+      stops = n;
+      surface = s;
+    }
+
+-- what a call leaves, as one record
+abbrev pub leavesSplit : Boundaries → List ℕ → List Float → List ℕ → List ℕ → SplitOutcome
+leavesSplit r en ef us ls = record { said = saidSplit r; buffers = record { en = en; ef = ef; us = us; ls = ls } }
 
 abbrev pub faceTotal : LentSplit → ℕ
 faceTotal l = total (take (l .faceWires) (l .faceLengths))
@@ -80,15 +108,15 @@ givenIn l =
 
 -- the face's wires and those to be rebuilt: "64 wires into a call, 1,024 uses in all wires of a call", a count or a sum of wire lengths above
 -- what was lent (1), and every edge number (3)
-unfoldable pub splitWiresCause : LentSplit → ℕ
-splitWiresCause l =
-    pick (ltb 64 (l .faceWires + l .rebuiltWires)) 1
-    (pick (ltb (length (l .faceLengths)) (l .faceWires)) 1
-    (pick (ltb (length (l .rebuiltLengths)) (l .rebuiltWires)) 1
-    (pick (ltb 1024 (faceTotal l + rebuiltTotal l)) 1
-    (pick (ltb (length (l .faceUses)) (faceTotal l)) 1
-    (pick (ltb (length (l .rebuiltUses)) (rebuiltTotal l)) 1
-    (lowerOf (usesCause (l .edges) (l .faceUses) (faceTotal l)) (usesCause (l .edges) (l .rebuiltUses) (rebuiltTotal l))))))))
+unfoldable pub splitWiresCause : ℕ → List ℕ → List ℕ → ℕ → List ℕ → List ℕ → ℕ → ℕ
+splitWiresCause edges fu fl fw ru rl rw =
+    pick (ltb 64 (fw + rw)) 1
+    (pick (ltb (length fl) fw) 1
+    (pick (ltb (length rl) rw) 1
+    (pick (ltb 1024 (total (take fw fl) + total (take rw rl))) 1
+    (pick (ltb (length fu) (total (take fw fl))) 1
+    (pick (ltb (length ru) (total (take rw rl))) 1
+    (lowerOf (usesCause edges fu (total (take fw fl))) (usesCause edges ru (total (take rw rl)))))))))
 
 -- the vertices on the divisor: a count above what was lent (1), every vertex number (2), every uv point (4)
 unfoldable pub stopCause : ℕ → List ℕ → List Float → ℕ → ℕ
@@ -103,7 +131,7 @@ unfoldable pub splitInputCause : LentSplit → ℕ
 splitInputCause l =
     lowerOf (countCause 4096 (l .vertices))
     (lowerOf (edgesCause (l .vertices) (l .buffers .en) (l .buffers .ef) (l .edges))
-    (lowerOf (splitWiresCause l) (stopsCause (l .vertices) (l .divisor) (l .points) (l .stops))))
+    (lowerOf (splitWiresCause (l .edges) (l .faceUses) (l .faceLengths) (l .faceWires) (l .rebuiltUses) (l .rebuiltLengths) (l .rebuiltWires)) (stopsCause (l .vertices) (l .divisor) (l .points) (l .stops))))
 
 -- "For a split, count the uses to be rebuilt and two for each new edge"
 abbrev pub splitCount : LentSplit → ℕ
@@ -111,12 +139,14 @@ splitCount l = rebuiltTotal l + pairs l * 2
 
 -- "6 applies when that count is above 1,024, when the lent buffer for uses or for wire lengths has fewer places than that count, or when the
 -- new edges pass 4,096 or the lent edge buffer."
-unfoldable pub splitRoomCause : LentSplit → ℕ
-splitRoomCause l =
-    pick (ltb 1024 (splitCount l)) 6
-    (pick (ltb (length (l .buffers .us)) (splitCount l)) 6
-    (pick (ltb (length (l .buffers .ls)) (splitCount l)) 6
-    (when (not (edgesFit (l .buffers .en) (l .buffers .ef) (l .edges + pairs l))) 6)))
+unfoldable pub roomCause : Buffers → ℕ → ℕ → ℕ
+roomCause b count edges =
+    pick (ltb 1024 count) 6
+    (pick (ltb (length (b .us)) count) 6
+    (pick (ltb (length (b .ls)) count) 6 (when (not (edgesFit (b .en) (b .ef) edges)) 6)))
+
+abbrev pub splitRoomCause : LentSplit → ℕ
+splitRoomCause l = roomCause (l .buffers) (splitCount l) (l .edges + pairs l)
 
 -- 9: "Odd count on the divisor"
 abbrev pub oddCause : ℕ → ℕ
@@ -136,11 +166,6 @@ splitCause l =
     thenCause (splitInputCause l) (thenCause (splitRoomCause l) (thenCause (oddCause (l .stops)) (repeatCause (l .divisor) (l .stops))))
 
 -- ---- the call
-
--- what a call leaves: its answer, and the contents of the slices that it may write
-pub record SplitOutcome : Type 0 where
-  pub said : Said SplitCounts
-  pub buffers : Buffers
 
 -- "on success": the new edges are appended, and the wires with their lengths stand in the fronts of their buffers.
 -- "Entries past a result keep what they held." On 11, 12 and 13 nothing is written.

@@ -1,13 +1,17 @@
 // Document 01's "Split" (`split_boundaries_by_divisor`, from `duplicated_edges` on): wires are rebuilt along a divisor.
 ghost use mathlib.Core.Path.{_≡_};
+ghost use mathlib.Core.Bool.{_&&_};
 ghost use Prim.Native.Nat.{ℕ, _+_, _*_, _/_, _≤_, _<_};
+ghost use lib.Dec.{leb, ltb};
 ghost use lib.Ieee.{nan};
-ghost use lib.ListN.{length, getD, take};
+ghost use lib.ListN.{length, getD, set};
+ghost use lib.Seq.{sets};
 ghost use Rattle.compress.specs.Layout.{storeFrom, rows};
+ghost use Rattle.compress.specs.Records.{pick};
 ghost use Rattle.compress.specs.Rows.{edgeNumbers, edgeFloats};
 ghost use Rattle.checks.specs.Causes.{lowestOf};
-ghost use Rattle.split.specs.Seams.{stopAt, seamOf, seamsOf, repeatsAfter};
-ghost use Rattle.split.specs.Contract.{oddCause, repeatCause, thenCause, stopCause, stopsCause};
+ghost use Rattle.split.specs.Seams.{stopAt, seamOf, seamsOf, newUses, occurs};
+ghost use Rattle.split.specs.Contract.{oddCause, repeatCause, stopCause, stopsCause, splitWiresCause, roomCause};
 use compress::Curve;
 use compress::Edge;
 use compress::Refusal;
@@ -70,13 +74,6 @@ fn stops_cause(vertices: usize, divisor: &[u32], points: &[f64], count: usize) -
     stop_rows(vertices, divisor, points, count)
 }
 
-// A cause of those that come first, else of those that come next.
-fn then_cause(first: u32, next: u32) -> u32
-    ensures { λ r. ⌜ r ≡ thenCause first next ⌝ }
-{
-    if first == 0 { next } else { first }
-}
-
 // Cause 9.
 fn odd_cause(count: usize) -> u32
     ensures { λ r. ⌜ r ≡ oddCause count ⌝ }
@@ -101,4 +98,178 @@ fn seam_of(surface: u32, a: u32, p: Uv, b: u32, q: Uv) -> Edge
         back: b,
         curve,
     }
+}
+
+// ---- the marks and the uses
+
+// `duplicated_edges`: entry e of `marks` is how often edge e occurs among the uses of the face. The table holds zeros.
+fn duplicated_edges(face: &[u32], marks: &mut [u32])
+    requires { ⌜ (length (now face) ≤ 1024) × ((k : ℕ) → k < length (now face) → getD (now face) k 0 / 2 < length (now marks)) × ((k : ℕ) → getD (now marks) k 0 ≡ 0) ⌝ }
+    ensures { λ _. ⌜ ((k : ℕ) → k < length (now (marks .entry)) → getD (now (marks .exit)) k 0 ≡ occurs k (now (face .entry))) ⌝ }
+{
+    let mut i: usize = 0;
+    while i < face.len() {
+        let e = (face[i] / 2) as usize;
+        marks[e] += 1;
+        i += 1;
+    }
+}
+
+// The new edges, n of them from number m on, count as occurring twice.
+fn mark_new(marks: &mut [u32], m: usize, n: usize)
+    requires { ⌜ m + n ≤ length (now marks) ⌝ }
+    ensures { λ _. ⌜ ((k : ℕ) → getD (now (marks .exit)) k 0 ≡ pick (leb m k && ltb k (m + n)) 2 (getD (now (marks .entry)) k 0)) ⌝ }
+{
+    let mut i: usize = 0;
+    while i < n {
+        marks[m + i] = 2;
+        i += 1;
+    }
+}
+
+// `signup_new_edges`: each of the n new edges from number m on, forward and reversed, is written from place `at` on.
+fn signup_new_edges(out: &mut [u32], at: usize, m: usize, n: usize)
+    requires { ⌜ (at + n * 2 ≤ length (now out)) × (m + n ≤ 4096) ⌝ }
+    ensures { λ _. ⌜ now (out .exit) ≡ sets (now (out .entry)) at (newUses m n) ⌝ }
+{
+    let mut i: usize = 0;
+    while i < n {
+        let u = ((m + i) * 2) as u32;
+        let k = at + i * 2;
+        out[k] = u;
+        out[k + 1] = u + 1;
+        i += 1;
+    }
+}
+
+// ---- the new edges' records
+
+// The seam between the vertices in rows 2i and 2i + 1.
+fn seam_at(divisor: &[u32], points: &[f64], surface: u32, i: usize) -> Edge
+    requires { ⌜ (i * 2 + 2 ≤ length (now divisor)) × (i * 4 + 4 ≤ length (now points)) ⌝ }
+    ensures { λ r. ⌜ r ≡ seamOf surface (stopAt (now (divisor .entry)) (now (points .entry)) (i * 2)) (stopAt (now (divisor .entry)) (now (points .entry)) (i * 2 + 1)) ⌝ }
+{
+    let a = i * 2;
+    let p = point_at(points, a);
+    let q = point_at(points, a + 1);
+    seam_of(surface, divisor[a], p, divisor[a + 1], q)
+}
+
+// `create_new_edges`: n seams are written to the rows from `edges` on.
+fn create_new_edges(
+    edge_numbers: &mut [u32],
+    edge_floats: &mut [f64],
+    divisor: &[u32],
+    points: &[f64],
+    surface: u32,
+    edges: usize,
+    n: usize,
+)
+    requires { ⌜ ((edges + n) * 4 ≤ length (now «edge_numbers»)) × ((edges + n) * 6 ≤ length (now «edge_floats»)) ⌝ }
+    requires { ⌜ (n * 2 ≤ length (now divisor)) × (n * 4 ≤ length (now points)) ⌝ }
+    ensures { λ _. ⌜ now («edge_numbers» .exit) ≡ storeFrom edgeNumbers (now («edge_numbers» .entry)) edges (seamsOf surface (rows (stopAt (now (divisor .entry)) (now (points .entry))) 0 (n * 2))) ⌝ }
+    ensures { λ _. ⌜ now («edge_floats» .exit) ≡ storeFrom edgeFloats (now («edge_floats» .entry)) edges (seamsOf surface (rows (stopAt (now (divisor .entry)) (now (points .entry))) 0 (n * 2))) ⌝ }
+{
+    let mut i: usize = 0;
+    while i < n {
+        let e = seam_at(divisor, points, surface, i);
+        compress::put_edge(edge_numbers, edge_floats, edges + i, e);
+        i += 1;
+    }
+}
+
+// ---- causes 9 and 10
+
+// Entry v is set, and what it held is the answer.
+fn visit(seen: &mut [u32], v: usize) -> u32
+    requires { ⌜ v < length (now seen) ⌝ }
+    ensures { λ r. ⌜ (r ≡ getD (now (seen .entry)) v 0) × (now (seen .exit) ≡ set (now (seen .entry)) v 1) ⌝ }
+{
+    let before = seen[v];
+    seen[v] = 1;
+    before
+}
+
+// Cause 10, of vertices below 4,096.
+fn repeat_cause(divisor: &[u32], count: usize) -> u32
+    requires { ⌜ (count ≤ length (now divisor)) × ((k : ℕ) → k < count → getD (now divisor) k 0 < 4096) ⌝ }
+    ensures { λ r. ⌜ r ≡ repeatCause (now (divisor .entry)) count ⌝ }
+{
+    let mut seen = [0u32; 4096];
+    let mut i: usize = 0;
+    while i < count {
+        if visit(&mut seen, divisor[i] as usize) != 0 {
+            return 10;
+        }
+        i += 1;
+    }
+    0
+}
+
+// ---- the other causes
+
+// Cause 6: `count` uses, and as many lengths, and `edges` edges have no room.
+fn room_cause(
+    edge_numbers: &[u32],
+    edge_floats: &[f64],
+    uses: &[u32],
+    lengths: &[u32],
+    count: usize,
+    edges: usize,
+) -> u32
+    ensures { λ r. ⌜ r ≡ roomCause (record { en = now («edge_numbers» .entry); ef = now («edge_floats» .entry); us = now (uses .entry); ls = now (lengths .entry) }) count edges ⌝ }
+{
+    if count > 1024 {
+        return 6;
+    }
+    if uses.len() < count {
+        return 6;
+    }
+    if lengths.len() < count {
+        return 6;
+    }
+    checks::cause_when(!compress::edges_fit(edge_numbers, edge_floats, edges), 6)
+}
+
+// Causes 1 and 3 of the face's wires and of those to be rebuilt.
+fn split_wires_cause(
+    edges: usize,
+    face_uses: &[u32],
+    face_lengths: &[u32],
+    rebuilt_uses: &[u32],
+    rebuilt_lengths: &[u32],
+    face_wires: usize,
+    rebuilt_wires: usize,
+) -> u32
+    ensures { λ r. ⌜ r ≡ splitWiresCause edges (now («face_uses» .entry)) (now («face_lengths» .entry)) «face_wires» (now («rebuilt_uses» .entry)) (now («rebuilt_lengths» .entry)) «rebuilt_wires» ⌝ }
+{
+    if face_wires > 64 {
+        return 1;
+    }
+    if rebuilt_wires > 64 - face_wires {
+        return 1;
+    }
+    if face_lengths.len() < face_wires {
+        return 1;
+    }
+    if rebuilt_lengths.len() < rebuilt_wires {
+        return 1;
+    }
+    let n = checks::total_uses(face_lengths, face_wires);
+    let m = checks::total_uses(rebuilt_lengths, rebuilt_wires);
+    if n > 1024 {
+        return 1;
+    }
+    if m > 1024 - n {
+        return 1;
+    }
+    if face_uses.len() < n {
+        return 1;
+    }
+    if rebuilt_uses.len() < m {
+        return 1;
+    }
+    let a = checks::use_rows(edges, face_uses, n);
+    let b = checks::use_rows(edges, rebuilt_uses, m);
+    checks::lower(a, b)
 }

@@ -1,43 +1,43 @@
+-- `split::stop_rows` meets its contract. Assumes nothing.
+use mathlib.Core.Path.{_≡_}
+use Prim.Native.Nat.{_≤_, _-_}
+use native.Mathlib.Omega.{arith}
+use Rattle.checks.specs.Causes.{lowestOf}
+use Rattle.checks.proofs.Lowest.{lowest-start, lowest-turn}
+use Rattle.split.specs.Contract.{stopCause}
 use Rattle.split.proofs.stop_rows.Statement.{statement}
 use Rattle.split.proofs.stop_rows.Tie as tie
-use Rattle.split.proofs.stop_rows.Reads as reads
-use Rattle.split.proofs.stop_rows.Lts as lts
-use Rattle.checks.proofs.lower.Reads as lower-reads
-use Rattle.split.proofs.stop_cause.Reads as stop-cause-reads
 
 abbrev Inv-loop : tie.InvT-loop
-Inv-loop vertices divisor points count least₀ i₀ least i = ?
+Inv-loop vertices divisor points count least₀ i₀ least i = (i ≤ count) × (least ≡ lowestOf (stopCause vertices divisor points) i)
 
 abbrev μ-loop : tie.MeasureT-loop
-μ-loop vertices divisor points count least₀ i₀ least i = ?
+μ-loop vertices divisor points count least₀ i₀ least i = count - i
 
--- src/lib.rt:54:5
 loop-holds : tie.Need-loop-holds Inv-loop μ-loop
-loop-holds c = ?
+loop-holds c = (omega arith, lowest-start _)
 
--- src/lib.rt:55:38
 stop-cause-requires : tie.Need-stop-cause-requires Inv-loop μ-loop
-stop-cause-requires c κs = ?
+stop-cause-requires c κs = (omega arith, omega arith)
 
--- src/lib.rt:55:9
 lower-requires : tie.Need-lower-requires Inv-loop μ-loop
-lower-requires c κs = ?
+lower-requires c κs = omega arith
 
--- src/lib.rt:54:9
 add-i : tie.Need-add-i Inv-loop μ-loop
-add-i c = ?
+add-i c = omega arith
 
--- src/lib.rt:54:5
 loop-less : tie.Need-loop-less Inv-loop μ-loop
-loop-less c = ?
+loop-less c = omega arith
 
--- src/lib.rt:54:5
 loop-again : tie.Need-loop-again Inv-loop μ-loop
-loop-again c = ?
+loop-again c =
+    let a = c .before .before .before .before .before .before .args in
+    (omega arith, lowest-turn (stopCause (a .vertices) (a .divisor .now) (a .points .now)) _ _ _ _ (c .before .before .before .loop .inv .1) (c .before .stop-cause .ensures) (c .lower .ensures))
 
--- src/lib.rt:49:1
 returns : tie.Need-returns Inv-loop μ-loop
-returns c = ?
+returns c =
+    let q : c .before .loop .i ≡ c .before .before .before .before .args .count = omega arith in
+    rw (← q) (c .before .loop .inv .1)
 
 pub stop-rows-spec : {M : Type 1} → statement M
 stop-rows-spec =
