@@ -1,2 +1,3 @@
 -- The laws of the split.
 pub mod Accepted
+pub mod Fronts
