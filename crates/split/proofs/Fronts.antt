@@ -79,7 +79,7 @@ module _ (l : LentSplit) where
       getD-seamsOf (l .surface) noEdge (at 0) (givenIn l .stops) k (omega arith)
       ∙ rw (read (k * 2) (omega arith), read (k * 2 + 1) (omega arith))
 
-  length-edges : length (givenIn l .edges) ≡ l .edges
+  pub length-edges : length (givenIn l .edges) ≡ l .edges
   unfolding givenIn
   length-edges = length-rows (edgeAt (l .buffers .en) (l .buffers .ef)) 0 (l .edges)
 

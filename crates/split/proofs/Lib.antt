@@ -1,3 +1,4 @@
 -- The laws of the split.
 pub mod Accepted
 pub mod Fronts
+pub mod Demand
