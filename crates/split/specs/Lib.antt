@@ -3,3 +3,4 @@ pub mod Seams
 pub mod Split
 pub mod Contract
 pub mod Demand
+pub mod Examples
