@@ -73,7 +73,7 @@ abbrev pub k11Answer : Answer
 k11Answer = refused 11
 
 pub k11-wires : splitWires k11 ≡ k11Answer
-unfolding frontOf backOf frontAt backAt steps opened tableWalk seamOf seamsOf newUses occurs markedBy splitWires
+unfolding frontOf backOf frontAt backAt steps opened tableWalk seamsOf newUses splitWires
 k11-wires = refl
 
 -- "K12: edges 0 to 2 are (0, 1), 3 to 5 are (1, 0), each used forward: 12."
@@ -85,7 +85,7 @@ abbrev pub k12Answer : Answer
 k12Answer = refused 12
 
 pub k12-wires : splitWires k12 ≡ k12Answer
-unfolding frontOf backOf frontAt backAt steps opened tableWalk seamOf seamsOf newUses occurs markedBy splitWires
+unfolding frontOf backOf frontAt backAt steps opened tableWalk seamsOf newUses splitWires
 k12-wires = refl
 
 -- "K13: edges 0 to 2 all (0, 0), each used forward: wires 2+, 1+, 0+."
@@ -96,20 +96,20 @@ abbrev pub k13Answer : Answer
 k13Answer = wires ((4 ∷ []) ∷ (2 ∷ []) ∷ (0 ∷ []) ∷ [])
 
 pub k13-wires : splitWires k13 ≡ k13Answer
-unfolding frontOf backOf frontAt backAt steps opened tableWalk seamOf seamsOf newUses occurs markedBy splitWires
+unfolding frontOf backOf frontAt backAt steps opened tableWalk seamsOf newUses splitWires
 k13-wires = refl
 
 -- ---- corners
 
 -- "No uses and an empty list: no wires."
 pub no-uses : splitWires (given 4 k9Edges [] []) ≡ wires []
-unfolding frontOf backOf frontAt backAt steps opened tableWalk seamOf seamsOf newUses occurs markedBy splitWires
+unfolding opened tableWalk seamsOf newUses splitWires
 no-uses = refl
 
 -- "Vertices pair off (first with second, third with fourth ..); each pair is a new edge": the list 0, 1, 2, 3 with no uses gives 5+ 5- and 6+ 6-.
 pub two-pairs : splitWires (given 4 k9Edges [] (stop 0 zero64 zero64 ∷ stop 1 zero64 one64 ∷ stop 2 one64 zero64 ∷ stop 3 one64 one64 ∷ []))
     ≡ wires ((10 ∷ 11 ∷ []) ∷ (12 ∷ 13 ∷ []) ∷ [])
-unfolding frontOf backOf frontAt backAt steps opened tableWalk seamOf seamsOf newUses occurs markedBy splitWires
+unfolding frontOf backOf frontAt backAt steps opened tableWalk seamOf seamsOf newUses splitWires
 two-pairs = refl
 
 -- "an odd last one makes no edge": K10's list with vertex 2 behind it
@@ -137,10 +137,10 @@ threeEdges face =
     }
 
 pub none-marked : splitWires (threeEdges (0 ∷ 2 ∷ 4 ∷ [])) ≡ wires ((0 ∷ 4 ∷ 2 ∷ []) ∷ [])
-unfolding frontOf backOf frontAt backAt steps opened tableWalk seamOf seamsOf newUses occurs markedBy splitWires
+unfolding frontOf backOf frontAt backAt steps opened tableWalk seamsOf newUses occurs markedBy splitWires
 none-marked = refl
 
 -- Where the face has 1+ 1-, edge 1 is marked, whichever its direction: 0+ 1+ and 2+.
 pub marked-by-face : splitWires (threeEdges (2 ∷ 3 ∷ [])) ≡ wires ((0 ∷ 2 ∷ []) ∷ (4 ∷ []) ∷ [])
-unfolding frontOf backOf frontAt backAt steps opened tableWalk seamOf seamsOf newUses occurs markedBy splitWires
+unfolding frontOf backOf frontAt backAt steps opened tableWalk seamsOf newUses occurs markedBy splitWires
 marked-by-face = refl
