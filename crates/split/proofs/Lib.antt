@@ -3,3 +3,5 @@ pub mod Accepted
 pub mod Marks
 pub mod Adding
 pub mod Repeats
+pub mod Fronts
+pub mod Demand

@@ -1,5 +1,6 @@
--- The definitions that the contract of the split cites.
+-- The definitions that the contract of the split cites, with worked examples.
 pub mod Seams
 pub mod Split
 pub mod Contract
 pub mod Demand
+pub mod Examples
