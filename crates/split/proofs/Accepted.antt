@@ -11,10 +11,10 @@ use lib.Ieee.{Float}
 use lib.ListN.{length, getD, take}
 use Rattle.compress.specs.Records.{pick}
 use Rattle.compress.specs.Shell.{edgesFit}
-use Rattle.checks.specs.Causes.{when, lowestOf, countCause, vertexNumberCause, uvCause, edgesCause, usesCause}
+use Rattle.checks.specs.Causes.{when, lowestOf, edgesCause, usesCause}
 use Rattle.checks.proofs.Accepted.{EdgesAccepted, passed, not-when, edges-accepted, uses-in}
 use Rattle.checks.proofs.Lowest.{lower-none, lowest-none}
-use Rattle.split.specs.Seams.{stopAt, repeatsAfter}
+use Rattle.split.specs.Seams.{repeatsAfter}
 use Rattle.split.specs.Contract.{LentSplit, faceTotal, rebuiltTotal, pairs, splitWiresCause, stopCause, stopsCause, splitInputCause, splitCount, roomCause, splitRoomCause, oddCause, repeatCause, thenCause, splitCause}
 
 pub then-none : (a b : ℕ) → thenCause a b ≡ 0 → (a ≡ 0) × (b ≡ 0)

@@ -123,6 +123,7 @@ module _ (l : LentSplit) where
         succeeds = λ q even few. absurd (omega arith);
         refuses = λ q v ne. absurd (omega arith);
         each = λ c p. absurd (never p);
+        all = λ c p. absurd (never p);
         wire = λ c p. absurd (never p);
         no-dead-end = λ q even p. omega arith;
       }
@@ -151,6 +152,7 @@ module _ (l : LentSplit) where
           succeeds = λ q even few. absurd (no-wires (claimed .succeeds even few .0) (claimed .succeeds even few .1));
           refuses = λ q v ne. (n, refl);
           each = λ c p. absurd (never p);
+          all = λ c p. absurd (never p);
           wire = λ c p. absurd (never p);
           no-dead-end = λ q even p. not-eleven even (e ∙ ap walk.refused (same p));
         }
@@ -171,7 +173,8 @@ module _ (l : LentSplit) where
         record {
           succeeds = λ q even few. (_, refl);
           refuses = λ q v ne. absurd (⊎-elim (never 11) (never 12) (claimed .refuses v ne));
-          each = λ c p u. rw (sym (counts c p)) (told u);
+          each = λ c p u. rw (sym (counts c p), wires-stored ws (l .buffers .us) (l .buffers .ls)) (told u);
+          all = λ c p. rw (sym (counts c p), wires-stored ws (l .buffers .us) (l .buffers .ls)) (sym (take-append-seam (usesOf ws) _));
           wire = λ c p i h.
               rw (sym (counts c p), wires-stored ws (l .buffers .us) (l .buffers .ls)) (claimed .wire ws e i (subst (λ (d : SplitCounts). i < d .wires) (sym (counts c p)) h));
           no-dead-end = λ q even. other;
@@ -189,9 +192,8 @@ module _ (l : LentSplit) where
         other : _≡_ {A = Said SplitCounts} (result said) (refused 11) → ⊥
         other p = let z : _≡_ {A = ℕ} 0 1 = cc in omega arith
 
-        told : (u : ℕ) → count (eqb u) (take (length (usesOf ws)) (over (usesOf ws) (l .buffers .us))) ≡ counted l u
-        told u =
-            ap (count (eqb u)) (take-append-seam (usesOf ws) _ ∙ uses-joined ws) ∙ claimed .each ws e u ∙ counted-all l u
+        told : (u : ℕ) → count (eqb u) (usesOf ws) ≡ counted l u
+        told u = ap (count (eqb u)) (uses-joined ws) ∙ claimed .each ws e u ∙ counted-all l u
 
     keeps-answer : (a : Answer) → splitWires (givenIn l) ≡ a → KeepsUses l (afterWalk (givenIn l) (l .buffers) a)
     keeps-answer (wires ws) e = keeps-wires ws e

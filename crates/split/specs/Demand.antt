@@ -1,16 +1,17 @@
 -- Demand 3, of the lent input and the lent output of a split: no directed edge use is lost. Definitions only.
 use mathlib.Core.Path.{_≡_}
 use mathlib.Core.Logic.{_≢_}
-use mathlib.Core.Bool.{Bool, _&&_}
+use mathlib.Core.Bool.{Bool}
 use mathlib.Core.List.{List, []}
 use Prim.Native.Nat.{ℕ, _+_, _≤_, _<_}
-use lib.Dec.{eqb, leb, ltb}
+use lib.Dec.{eqb}
 use lib.ListN.{getD, take}
 use Rattle.compress.specs.Records.{pick, edgeOfUse}
 use Rattle.compress.specs.Said.{result, refused}
-use Rattle.compress.specs.Wires.{wiresOf}
+use Rattle.compress.specs.Wires.{wiresOf, usesOf}
 use Rattle.walk.specs.Walk.{count}
 use Rattle.walk.specs.Claim.{Wire, out, into}
+use Rattle.split.specs.Seams.{isNewEdge}
 use Rattle.split.specs.Split.{frontAfter, backAfter, usesToWalk}
 use Rattle.split.specs.Contract.{SplitCounts, LentSplit, rebuiltTotal, pairs, givenIn, splitCause, SplitOutcome}
 
@@ -30,7 +31,7 @@ backsAt l v = into (backIn l) v (usesToWalk (givenIn l))
 
 -- an edge that the split adds
 abbrev pub isNew : LentSplit → ℕ → Bool
-isNew l e = leb (l .edges) e && ltb e (l .edges + pairs l)
+isNew l e = isNewEdge (l .edges) (pairs l) e
 
 -- "places in the wires to be rebuilt + 1 if the edge is new"
 abbrev pub counted : LentSplit → ℕ → ℕ
@@ -47,7 +48,9 @@ pub record KeepsUses (l : LentSplit) (o : SplitOutcome) : Type 0 where
   -- if at any vertex the two numbers are unequal, it is refused
   pub refuses : splitCause l ≡ 0 → (v : ℕ) → frontsAt l v ≢ backsAt l v → (n : ℕ) × (o .said ≡ refused n)
   -- in every success each directed use stands in the answered wires exactly as often as it was counted
-  pub each : (c : SplitCounts) → o .said ≡ result c → (u : ℕ) → count (eqb u) (take (c .uses) (o .buffers .us)) ≡ counted l u
+  pub each : (c : SplitCounts) → o .said ≡ result c → (u : ℕ) → count (eqb u) (usesOf (wiresOf (o .buffers .us) (take (c .wires) (o .buffers .ls)))) ≡ counted l u
+  -- and these are the uses that it says
+  pub all : (c : SplitCounts) → o .said ≡ result c → usesOf (wiresOf (o .buffers .us) (take (c .wires) (o .buffers .ls))) ≡ take (c .uses) (o .buffers .us)
   -- and each wire is closed, and of its backs the last, and no other, is its first front
   pub wire : (c : SplitCounts) → o .said ≡ result c → (i : ℕ) → i < c .wires → Wire (frontIn l) (backIn l) (answeredWire o c i)
   -- where every vertex is balanced no dead end is met, whatever the degree

@@ -1,8 +1,8 @@
 -- What a split adds: the seams between the vertices on the divisor, their uses, and the marks. Definitions only.
-use mathlib.Core.Bool.{Bool, false, _||_}
+use mathlib.Core.Bool.{Bool, false, _&&_, _||_}
 use mathlib.Core.List.{List, [], _∷_}
 use Prim.Native.Nat.{ℕ, zero, suc, _+_, _*_}
-use lib.Dec.{eqb, leb}
+use lib.Dec.{eqb, leb, ltb}
 use lib.Ieee.{Float, binary64, ofBits, nan}
 use lib.ListN.{getD}
 use Rattle.compress.specs.declared.Curve.the-variants.{Seam}
@@ -39,9 +39,13 @@ unfoldable pub occurs : ℕ → List ℕ → ℕ
 occurs e [] = 0
 occurs e (u ∷ us) = pick (eqb (edgeOfUse u) e) 1 0 + occurs e us
 
--- "Marked are edge numbers that occur twice or more in the face's wires, and the new edges": these are from number n on
-unfoldable pub markedBy : List ℕ → ℕ → ℕ → Bool
-markedBy face n u = leb n (edgeOfUse u) || leb 2 (occurs (edgeOfUse u) face)
+-- one of the k new edges from number m on
+abbrev pub isNewEdge : ℕ → ℕ → ℕ → Bool
+isNewEdge m k e = leb m e && ltb e (m + k)
+
+-- "Marked are edge numbers that occur twice or more in the face's wires, and the new edges": k of them from number m on
+unfoldable pub markedBy : List ℕ → ℕ → ℕ → ℕ → Bool
+markedBy face m k u = isNewEdge m k (edgeOfUse u) || leb 2 (occurs (edgeOfUse u) face)
 
 -- "A vertex twice on the divisor"
 unfoldable pub stands : ℕ → List ℕ → Bool

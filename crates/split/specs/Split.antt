@@ -46,7 +46,7 @@ abbrev pub usesToWalk : Given → List ℕ
 usesToWalk g = g .rebuilt ++ newUses (length (g .edges)) (length (seams g))
 
 abbrev pub markedIn : Given → ℕ → Bool
-markedIn g = markedBy (g .face) (length (g .edges))
+markedIn g = markedBy (g .face) (length (g .edges)) (length (seams g))
 
 -- the walk over the table of lists
 unfoldable pub splitWires : Given → Answer

@@ -1,8 +1,6 @@
 // Document 01's "Split" (`split_boundaries_by_divisor`, from `duplicated_edges` on): wires are rebuilt along a divisor.
 ghost use mathlib.Core.Path.{_≡_};
-ghost use mathlib.Core.Bool.{_&&_};
 ghost use Prim.Native.Nat.{ℕ, _+_, _*_, _/_, _≤_, _<_};
-ghost use lib.Dec.{leb, ltb};
 ghost use lib.Ieee.{nan};
 ghost use lib.ListN.{length, getD, set};
 ghost use lib.Seq.{sets};
@@ -10,7 +8,7 @@ ghost use Rattle.compress.specs.Layout.{storeFrom, rows};
 ghost use Rattle.compress.specs.Records.{pick};
 ghost use Rattle.compress.specs.Rows.{edgeNumbers, edgeFloats};
 ghost use Rattle.checks.specs.Causes.{lowestOf};
-ghost use Rattle.split.specs.Seams.{stopAt, seamOf, seamsOf, newUses, occurs};
+ghost use Rattle.split.specs.Seams.{stopAt, seamOf, seamsOf, newUses, occurs, isNewEdge};
 ghost use Rattle.split.specs.Contract.{oddCause, repeatCause, stopCause, stopsCause, splitWiresCause, roomCause};
 use compress::Curve;
 use compress::Edge;
@@ -118,7 +116,7 @@ fn duplicated_edges(face: &[u32], marks: &mut [u32])
 // The new edges, n of them from number m on, count as occurring twice.
 fn mark_new(marks: &mut [u32], m: usize, n: usize)
     requires { ⌜ m + n ≤ length (now marks) ⌝ }
-    ensures { λ _. ⌜ ((k : ℕ) → getD (now (marks .exit)) k 0 ≡ pick (leb m k && ltb k (m + n)) 2 (getD (now (marks .entry)) k 0)) ⌝ }
+    ensures { λ _. ⌜ ((k : ℕ) → getD (now (marks .exit)) k 0 ≡ pick (isNewEdge m n k) 2 (getD (now (marks .entry)) k 0)) ⌝ }
 {
     let mut i: usize = 0;
     while i < n {
