@@ -2,5 +2,6 @@
 pub mod Seams
 pub mod Split
 pub mod Contract
+pub mod Steps
 pub mod Demand
 pub mod Examples

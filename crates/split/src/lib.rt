@@ -1,5 +1,6 @@
 // Document 01's "Split" (`split_boundaries_by_divisor`, from `duplicated_edges` on): wires are rebuilt along a divisor.
 ghost use mathlib.Core.Path.{_≡_};
+ghost use mathlib.Core.List.{List};
 ghost use Prim.Native.Nat.{ℕ, _+_, _*_, _/_, _≤_, _<_};
 ghost use lib.Ieee.{nan};
 ghost use lib.ListN.{length, getD, set};
@@ -9,11 +10,14 @@ ghost use Rattle.compress.specs.Records.{pick};
 ghost use Rattle.compress.specs.Rows.{edgeNumbers, edgeFloats};
 ghost use Rattle.checks.specs.Causes.{lowestOf};
 ghost use Rattle.split.specs.Seams.{stopAt, seamOf, seamsOf, newUses, occurs, isNewEdge};
-ghost use Rattle.split.specs.Contract.{oddCause, repeatCause, stopCause, stopsCause, splitWiresCause, roomCause};
+ghost use Rattle.split.specs.Contract.{oddCause, repeatCause, stopCause, stopsCause, splitWiresCause, roomCause, lentSplit, splitInputCause};
+ghost use Rattle.split.specs.Steps.{Walkable, lentWalk};
+ghost use Rattle.walk.specs.Answered.{Traced};
 use compress::Curve;
 use compress::Edge;
 use compress::Refusal;
 use compress::Uv;
+use walk::Walked;
 
 // The answer of a split: how many wires, uses and edges there are now, or why the call was turned away.
 pub enum Boundaries {
@@ -270,4 +274,74 @@ fn split_wires_cause(
     let a = checks::use_rows(edges, face_uses, n);
     let b = checks::use_rows(edges, rebuilt_uses, m);
     checks::lower(a, b)
+}
+
+// Causes 1 to 5, over all that is lent.
+fn split_input_cause(
+    edge_numbers: &[u32],
+    edge_floats: &[f64],
+    face_uses: &[u32],
+    face_lengths: &[u32],
+    rebuilt_uses: &[u32],
+    rebuilt_lengths: &[u32],
+    divisor: &[u32],
+    points: &[f64],
+    vertices: usize,
+    edges: usize,
+    face_wires: usize,
+    rebuilt_wires: usize,
+    count: usize,
+) -> u32
+    ensures { λ r. ⌜ ((us ls : List ℕ) (s : ℕ) → r ≡ splitInputCause (lentSplit (now («edge_numbers» .entry)) (now («edge_floats» .entry)) (now («face_uses» .entry)) (now («face_lengths» .entry)) (now («rebuilt_uses» .entry)) (now («rebuilt_lengths» .entry)) (now (divisor .entry)) (now (points .entry)) us ls vertices edges «face_wires» «rebuilt_wires» count s)) ⌝ }
+{
+    let v = checks::count(4096, vertices);
+    let e = checks::edges(vertices, edge_numbers, edge_floats, edges);
+    let w = split_wires_cause(
+        edges,
+        face_uses,
+        face_lengths,
+        rebuilt_uses,
+        rebuilt_lengths,
+        face_wires,
+        rebuilt_wires,
+    );
+    let s = stops_cause(vertices, divisor, points, count);
+    checks::lower(v, checks::lower(e, checks::lower(w, s)))
+}
+
+// ---- the walk
+
+// The wires that the uses of the wires to be rebuilt and of the new edges make: they go to `made`, wire after wire, and their lengths to `sizes`.
+// The divisor has a pair of vertices for each new edge.
+fn walk_wires(
+    edge_numbers: &[u32],
+    edges: usize,
+    face: &[u32],
+    rebuilt: &[u32],
+    divisor: &[u32],
+    pairs: usize,
+    made: &mut [u32; 1024],
+    sizes: &mut [u32; 1024],
+) -> Walked
+    requires { ⌜ Walkable (now «edge_numbers») edges (now face) (now rebuilt) (now divisor) pairs ⌝ }
+    requires { ⌜ (length (now made) ≡ 1024) × (length (now sizes) ≡ 1024) ⌝ }
+    ensures { λ r. ⌜ Traced (lentWalk (now («edge_numbers» .entry)) edges (now (face .entry)) (now (rebuilt .entry)) (now (divisor .entry)) pairs) (length (now (rebuilt .entry)) + pairs * 2) (now (made .exit)) (now (sizes .exit)) r ⌝ }
+{
+    let mut marks = [0u32; 4096];
+    let mut uses = [0u32; 1024];
+    let n = rebuilt.len();
+    let m = n + pairs * 2;
+    duplicated_edges(face, &mut marks);
+    mark_new(&mut marks, edges, pairs);
+    compress::copy(rebuilt, n, &mut uses);
+    signup_new_edges(&mut uses, n, edges, pairs);
+    walk::construct_boundaries(
+        edge_numbers,
+        edges,
+        divisor,
+        &marks,
+        &uses[..m],
+        made,
+        sizes,
+    )
 }
