@@ -48,7 +48,7 @@ exactlyOne true false = true
 exactlyOne false true = true
 exactlyOne false false = false
 
--- The walk arrives at the vertex v with the use u: what the step is, and what it leaves in the tables.
+-- The walk arrives at the vertex v with the use u: what the step is, and, where it takes a use, what it leaves in the tables.
 pub data Went (marked : ℕ → Bool) (us hd nx : List ℕ) (v u : ℕ) (s : Step) (hd′ nx′ : List ℕ) : Type 0 where
   absent : getD hd v 0 ≡ 0 → s ≡ DeadEnd → Went marked us hd nx v u s hd′ nx′
   empty : getD hd v 0 ≡ 1 → s ≡ EmptyList → Went marked us hd nx v u s hd′ nx′

@@ -27,7 +27,7 @@ abbrev μ-walk : tie.MeasureT-walk
 create-vemap-requires : tie.Need-create-vemap-requires Inv-loop μ-loop Inv-walk μ-walk
 create-vemap-requires c κs =
     let s = c .before .before .before .before .before .before .pre .0 in
-    ((s .few, s .there, front-small s), (refl, refl, zeros 4096, zeros 1024))
+    (s .few, (s .there, (front-small s, (refl, refl, zeros 4096, zeros 1024))))
 
 walk-holds : tie.Need-walk-holds Inv-loop μ-loop Inv-walk μ-walk
 walk-holds c = (between-start (c .create-vemap .ensures) (c .before .before .before .before .before .before .before .pre .1 .0) (c .before .before .before .before .before .before .before .pre .1 .1), refl)

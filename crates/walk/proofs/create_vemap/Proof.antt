@@ -15,7 +15,7 @@ abbrev μ-loop : tie.MeasureT-loop
 μ-loop edge-numbers divisor edges uses head₀ next₀ i₀ head next i = length uses - i
 
 loop-holds : tie.Need-loop-holds Inv-loop μ-loop
-loop-holds c = (omega arith, lists-start _ _ (c .before .before .before .pre .1 .0) (c .before .before .before .pre .1 .1) (c .before .before .before .pre .1 .2) (c .before .before .before .pre .1 .3))
+loop-holds c = (omega arith, lists-start _ _ (c .before .before .before .pre .1 .1 .1 .0) (c .before .before .before .pre .1 .1 .1 .1) (c .before .before .before .pre .1 .1 .1 .2) (c .before .before .before .pre .1 .1 .1 .3))
 
 mul-front : tie.Need-mul-front Inv-loop μ-loop
 mul-front c = omega arith
@@ -24,10 +24,10 @@ shared-slice-read-front : tie.Need-shared-slice-read-front Inv-loop μ-loop
 shared-slice-read-front c = omega arith
 
 front-requires : tie.Need-front-requires Inv-loop μ-loop
-front-requires c κs = c .before .before .before .before .before .before .pre .0 .1 (c .before .before .loop .i) (c .before .loop-test .taken)
+front-requires c κs = c .before .before .before .before .before .before .pre .1 .0 (c .before .before .loop .i) (c .before .loop-test .taken)
 
 push-requires : tie.Need-push-requires Inv-loop μ-loop
-push-requires c κs = (omega (arith, c .before .before .front .ensures, c .before .before .before .before .before .before .before .before .before .pre .0 .2 (c .before .before .before .before .before .loop .i) (c .before .before .before .before .loop-test .taken)), omega arith)
+push-requires c κs = (omega (arith, c .before .before .front .ensures, c .before .before .before .before .before .before .before .before .before .pre .1 .1 .0 (c .before .before .before .before .before .loop .i) (c .before .before .before .before .loop-test .taken)), omega arith)
 
 add-i : tie.Need-add-i Inv-loop μ-loop
 add-i c = omega arith
@@ -39,7 +39,7 @@ loop-again : tie.Need-loop-again Inv-loop μ-loop
 loop-again c =
     let l = c .before .before .before .before .before .before .loop in
     let v = c .before .before .before .front in
-    let small = c .before .before .before .before .before .before .before .before .before .before .pre .0 .2 (l .i) (c .before .before .before .before .before .loop-test .taken) in
+    let small = c .before .before .before .before .before .before .before .before .before .before .pre .1 .1 .0 (l .i) (c .before .before .before .before .before .loop-test .taken) in
     (omega arith, lists-more-to _ _ (l .inv .1) (c .before .before .before .before .before .loop-test .taken) (omega arith) (omega (arith, v .ensures)) (v .ensures) (c .push .ensures .0) (c .push .ensures .1))
 
 returns : tie.Need-returns Inv-loop μ-loop
