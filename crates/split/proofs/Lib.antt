@@ -4,4 +4,5 @@ pub mod Marks
 pub mod Adding
 pub mod Repeats
 pub mod Fronts
+pub mod Walking
 pub mod Demand

@@ -19,7 +19,7 @@ unfoldable pub before : List ℕ → ℕ → List ℕ
 before ds zero = []
 before ds (suc i) = getD ds i 0 ∷ before ds i
 
-zeros : {A : Type 0} (a : A) (n k : ℕ) → getD (replicate n a) k a ≡ a
+pub zeros : {A : Type 0} (a : A) (n k : ℕ) → getD (replicate n a) k a ≡ a
 zeros a zero k = refl
 zeros a (suc n) zero = refl
 zeros a (suc n) (suc k) = zeros a n k
