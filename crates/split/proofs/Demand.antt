@@ -93,12 +93,12 @@ counted-all l u =
 
 -- ---- wires that were stored, read back
 
-uses-joined : (ws : List (List ℕ)) → usesOf ws ≡ join ws
+pub uses-joined : (ws : List (List ℕ)) → usesOf ws ≡ join ws
 unfolding usesOf
 uses-joined [] = refl
 uses-joined (w ∷ ws) = ap (λ (x : List ℕ). w ++ x) (uses-joined ws)
 
-length-lengths : (ws : List (List ℕ)) → length (lengthsOf ws) ≡ length ws
+pub length-lengths : (ws : List (List ℕ)) → length (lengthsOf ws) ≡ length ws
 unfolding lengthsOf
 length-lengths [] = refl
 length-lengths (w ∷ ws) = ap suc (length-lengths ws)

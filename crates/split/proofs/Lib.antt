@@ -6,3 +6,4 @@ pub mod Repeats
 pub mod Fronts
 pub mod Walking
 pub mod Demand
+pub mod Storing

@@ -10,8 +10,8 @@ ghost use Rattle.compress.specs.Records.{pick};
 ghost use Rattle.compress.specs.Rows.{edgeNumbers, edgeFloats};
 ghost use Rattle.checks.specs.Causes.{lowestOf};
 ghost use Rattle.split.specs.Seams.{stopAt, seamOf, seamsOf, newUses, occurs, isNewEdge};
-ghost use Rattle.split.specs.Contract.{oddCause, repeatCause, stopCause, stopsCause, splitWiresCause, roomCause, lentSplit, splitInputCause};
-ghost use Rattle.split.specs.Steps.{Walkable, lentWalk};
+ghost use Rattle.split.specs.Contract.{oddCause, repeatCause, stopCause, stopsCause, splitWiresCause, roomCause, lentSplit, leavesSplit, splitInputCause};
+ghost use Rattle.split.specs.Steps.{Walkable, lentWalk, Roomy, afterLent};
 ghost use Rattle.walk.specs.Answered.{Traced};
 use compress::Curve;
 use compress::Edge;
@@ -344,4 +344,61 @@ fn walk_wires(
         made,
         sizes,
     )
+}
+
+// ---- the call
+
+// The split of an input that has no cause before the walk. Nothing lent is written before the walk has succeeded.
+fn split_checked(
+    edge_numbers: &mut [u32],
+    edge_floats: &mut [f64],
+    face: &[u32],
+    rebuilt: &[u32],
+    divisor: &[u32],
+    points: &[f64],
+    uses: &mut [u32],
+    lengths: &mut [u32],
+    edges: usize,
+    pairs: usize,
+    surface: u32,
+) -> Boundaries
+    requires { ⌜ Walkable (now «edge_numbers») edges (now face) (now rebuilt) (now divisor) pairs ⌝ }
+    requires { ⌜ Roomy (record { en = now «edge_numbers»; ef = now «edge_floats»; us = now uses; ls = now lengths }) edges (length (now rebuilt) + pairs * 2) pairs (now points) ⌝ }
+    ensures { λ r. ⌜ leavesSplit r (now («edge_numbers» .exit)) (now («edge_floats» .exit)) (now (uses .exit)) (now (lengths .exit)) ≡ afterLent (record { en = now («edge_numbers» .entry); ef = now («edge_floats» .entry); us = now (uses .entry); ls = now (lengths .entry) }) edges (seamsOf surface (rows (stopAt (now (divisor .entry)) (now (points .entry))) 0 (pairs * 2))) (lentWalk (now («edge_numbers» .entry)) edges (now (face .entry)) (now (rebuilt .entry)) (now (divisor .entry)) pairs) ⌝ }
+{
+    let mut made = [0u32; 1024];
+    let mut sizes = [0u32; 1024];
+    let walked = walk_wires(
+        edge_numbers,
+        edges,
+        face,
+        rebuilt,
+        divisor,
+        pairs,
+        &mut made,
+        &mut sizes,
+    );
+    match walked {
+        Walked::Done { wires, uses: count } => {
+            create_new_edges(
+                edge_numbers,
+                edge_floats,
+                divisor,
+                points,
+                surface,
+                edges,
+                pairs,
+            );
+            walk::copy_wires(&made, &sizes, wires, uses);
+            compress::copy(&sizes, wires, lengths);
+            Boundaries::Split {
+                wires,
+                uses: count,
+                edges: edges + pairs,
+            }
+        }
+        Walked::DeadEnd => Boundaries::SplitRefused(Refusal::DeadEnd),
+        Walked::TooManyUses => Boundaries::SplitRefused(Refusal::TooManyUses),
+        Walked::EmptyList => Boundaries::SplitRefused(Refusal::EmptyList),
+    }
 }
