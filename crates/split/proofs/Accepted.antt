@@ -1,6 +1,6 @@
 -- What a split without a cause before the walk is lent: every count within its bounds and what was lent, every number known, and room.
 -- Assumes nothing.
-use mathlib.Core.Path.{_≡_, refl}
+use mathlib.Core.Path.{_≡_, refl, sym, _∙_}
 use mathlib.Core.Bool.{Bool, true, false, not}
 use mathlib.Core.List.{List, []}
 use Prim.Native.Nat.{ℕ, zero, suc, _+_, _*_, _/_, _%_, _≤_, _<_}
@@ -117,3 +117,31 @@ split-checked l q =
       even = omega (arith, o);
       apart = not-when (repeatsAfter [] (take (l .stops) (l .divisor))) 9 (c .1);
     }
+
+-- ---- the causes before the walk, in the order in which they are looked for
+then-first : (a b : ℕ) → (a ≡ 0 → ⊥) → thenCause a b ≡ a
+then-first zero b ne = absurd (ne refl)
+then-first (suc a) b ne = refl
+
+then-next : (a b : ℕ) → a ≡ 0 → thenCause a b ≡ b
+then-next a b z = rw z
+
+module _ (l : LentSplit) where
+  pub cause-input : (k : ℕ) → k ≡ splitInputCause l → (k ≡ 0 → ⊥) → k ≡ splitCause l
+  unfolding splitCause
+  cause-input k q ne = sym (rw (← q) (then-first k _ ne))
+
+  module _ (a : splitInputCause l ≡ 0) where
+    pub cause-room : (k : ℕ) → k ≡ splitRoomCause l → (k ≡ 0 → ⊥) → k ≡ splitCause l
+    unfolding splitCause
+    cause-room k q ne = sym (then-next (splitInputCause l) _ a ∙ rw (← q) (then-first k _ ne))
+
+    module _ (b : splitRoomCause l ≡ 0) where
+      pub cause-odd : (k : ℕ) → k ≡ oddCause (l .stops) → (k ≡ 0 → ⊥) → k ≡ splitCause l
+      unfolding splitCause
+      cause-odd k q ne = sym (then-next (splitInputCause l) _ a ∙ then-next (splitRoomCause l) _ b ∙ rw (← q) (then-first k _ ne))
+
+      pub cause-repeat : oddCause (l .stops) ≡ 0 → (k : ℕ) → k ≡ repeatCause (l .divisor) (l .stops) → k ≡ splitCause l
+      unfolding splitCause
+      cause-repeat c k q =
+          q ∙ sym (then-next (splitInputCause l) _ a ∙ then-next (splitRoomCause l) _ b ∙ then-next (oddCause (l .stops)) _ c)

@@ -10,7 +10,7 @@ ghost use Rattle.compress.specs.Records.{pick};
 ghost use Rattle.compress.specs.Rows.{edgeNumbers, edgeFloats};
 ghost use Rattle.checks.specs.Causes.{lowestOf};
 ghost use Rattle.split.specs.Seams.{stopAt, seamOf, seamsOf, newUses, occurs, isNewEdge};
-ghost use Rattle.split.specs.Contract.{oddCause, repeatCause, stopCause, stopsCause, splitWiresCause, roomCause, lentSplit, leavesSplit, splitInputCause};
+ghost use Rattle.split.specs.Contract.{oddCause, repeatCause, stopCause, stopsCause, splitWiresCause, roomCause, lentSplit, leavesSplit, splitInputCause, splitCause, splitOutcome};
 ghost use Rattle.split.specs.Steps.{Walkable, lentWalk, Roomy, afterLent};
 ghost use Rattle.walk.specs.Answered.{Traced};
 use compress::Curve;
@@ -401,4 +401,55 @@ fn split_checked(
         Walked::TooManyUses => Boundaries::SplitRefused(Refusal::TooManyUses),
         Walked::EmptyList => Boundaries::SplitRefused(Refusal::EmptyList),
     }
+}
+
+// Every cause that is found before the walk. For any surface number.
+fn split_cause(
+    edge_numbers: &[u32],
+    edge_floats: &[f64],
+    face_uses: &[u32],
+    face_lengths: &[u32],
+    rebuilt_uses: &[u32],
+    rebuilt_lengths: &[u32],
+    divisor: &[u32],
+    points: &[f64],
+    uses: &[u32],
+    lengths: &[u32],
+    vertices: usize,
+    edges: usize,
+    face_wires: usize,
+    rebuilt_wires: usize,
+    count: usize,
+) -> u32
+    ensures { λ r. ⌜ ((s : ℕ) → r ≡ splitCause (lentSplit (now («edge_numbers» .entry)) (now («edge_floats» .entry)) (now («face_uses» .entry)) (now («face_lengths» .entry)) (now («rebuilt_uses» .entry)) (now («rebuilt_lengths» .entry)) (now (divisor .entry)) (now (points .entry)) (now (uses .entry)) (now (lengths .entry)) vertices edges «face_wires» «rebuilt_wires» count s)) ⌝ }
+{
+    let input = split_input_cause(
+        edge_numbers,
+        edge_floats,
+        face_uses,
+        face_lengths,
+        rebuilt_uses,
+        rebuilt_lengths,
+        divisor,
+        points,
+        vertices,
+        edges,
+        face_wires,
+        rebuilt_wires,
+        count,
+    );
+    if input != 0 {
+        return input;
+    }
+    let pairs = count / 2;
+    let n = checks::total_uses(rebuilt_lengths, rebuilt_wires) + pairs * 2;
+    let room = room_cause(edge_numbers, edge_floats, uses, lengths, n, edges + pairs);
+    if room != 0 {
+        return room;
+    }
+    let odd = odd_cause(count);
+    if odd != 0 {
+        return odd;
+    }
+    repeat_cause(divisor, count)
 }
