@@ -15,7 +15,8 @@ use Rattle.compress.specs.Shell.{Counts}
 use Rattle.split_closed_edges.specs.Contract.{Outcome}
 use Rattle.join.specs.Contract.{JoinOutcome}
 use Rattle.nearest.specs.Kinds.{SortOutcome}
-use Rattle.healing.specs.Host.{codeOf, placesAfter, Told, HostShell, HostJoin, HostSort}
+use Rattle.split.specs.Contract.{SplitCounts, SplitOutcome}
+use Rattle.healing.specs.Host.{codeOf, placesAfter, Told, HostShell, HostJoin, HostBoundaries, HostSort}
 
 number-small : (r : Refusal) → refusalNumber r ≤ 15
 number-small Malformed = omega arith
@@ -70,3 +71,6 @@ sort-told q t = rw (← q) (record { told = t; opens = refl; closed = refl })
 
 pub join-told : {x o : JoinOutcome} {before after : ℕ} {r : ℤ} → x ≡ o → Told (x .said) before after r → HostJoin o before after (x .us) (x .ls) r
 join-told q t = rw (← q) (record { told = t; uses = refl; lengths = refl })
+
+pub boundaries-told : {x o : SplitOutcome} {before after : SplitCounts} {r : ℤ} → x ≡ o → Told (x .said) before after r → HostBoundaries o before after (x .buffers) r
+boundaries-told q t = rw (← q) (record { told = t; lent = refl })

@@ -1,4 +1,4 @@
--- The worked cases of document 01, K1 to K9 so far, and one claim: each holds of the written definitions.
+-- The worked cases of document 01, K1 to K13, and one claim: each holds of the written definitions.
 use mathlib.Core.Path.{_≡_, refl}
 use mathlib.Core.List.{List, [], _∷_}
 use Prim.Native.Nat.{ℕ}
@@ -9,7 +9,7 @@ use Rattle.compress.specs.declared.Edge.{Edge}
 use Rattle.compress.specs.declared.Uv.{Uv}
 use Rattle.compress.specs.declared.Vertex.{Vertex}
 use Rattle.compress.specs.declared.Vertex.the-variants.{Given, Pending}
-use Rattle.compress.specs.Records.{closed, frontOf, frontAt}
+use Rattle.compress.specs.Records.{closed, frontOf, backOf, frontAt, backAt}
 use Rattle.compress.specs.Said.{Said, result, none, refused}
 use Rattle.compress.specs.Shell.{Shell}
 use Rattle.checks.specs.Causes.{lowerOf, floatCause, periodCause, uvCause}
@@ -24,6 +24,12 @@ use Rattle.wires.specs.Turn.{turned}
 use Rattle.non_simple.specs.Loop.{nothing, insert, searched, firstRepeat}
 use Rattle.non_simple.specs.Divisor.{secondPair, dividedBy, turnedDivisor, wireDivisor, findDivisor}
 use Rattle.nearest.specs.Copies.{nearestCopyOf, copyCause, nearestCopySaid}
+use Rattle.walk.specs.Walk.{Answer}
+use Rattle.walk.specs.Table.{steps, opened, tableWalk}
+use Rattle.split.specs.Seams.{seamOf, seamsOf, newUses, occurs, markedBy}
+use Rattle.split.specs.Split.{edgesAfter, splitWires}
+use Rattle.split.specs.Split as split
+use Rattle.split.specs.Examples as splits
 
 -- ---- the numbers and records of the cases
 abbrev pub zero64 : Float
@@ -78,6 +84,7 @@ pub data Case : Type 0 where
   closed-edges : (given answer : Shell) → Case
   unwrapping : (u u0 : Float) → Period → Said Float → Case
   searching : (edges : List Edge) → (vertices : List Vertex) → (wires : List (List ℕ)) → Said Divisor → Case
+  splitting : (given : split.Given) → (edges : List Edge) → Answer → Case
   copying : (p q : Uv) → (up vp : Period) → Said Uv → Case
 
 -- what a case says of the definitions
@@ -85,6 +92,7 @@ abbrev pub holds : Case → Type 0
 holds (closed-edges given answer) = splitClosedEdges given ≡ answer
 holds (unwrapping u u0 period answer) = getMindiff u u0 period ≡ answer
 holds (searching es vs ws answer) = findDivisor (λ i. getD es i rim) (λ i. getD vs i rimVertex) ws ≡ answer
+holds (splitting given edges answer) = (edgesAfter given ≡ edges) × (splitWires given ≡ answer)
 holds (copying p q up vp answer) = nearestCopySaid p q up vp ≡ answer
 
 abbrev pub allHold : List Case → Type 0
@@ -143,12 +151,28 @@ k8 = pipeWire (0 ∷ 1 ∷ 2 ∷ []) none
 abbrev pub k9 : Case
 k9 = pipeWire (2 ∷ 4 ∷ 0 ∷ 6 ∷ 8 ∷ 1 ∷ []) (result (record { v0 = 3; v1 = 1 }))
 
+-- "K10: K9's edges, face wire and rebuilt wire, list 3, 1: edge 5 = (3, 1); wires 0+ 3+ 5+ 2+ and 1+ 5- 4+ 0-."
+abbrev pub k10 : Case
+k10 = splitting splits.k10 splits.k10Edges splits.k10Answer
+
+-- "K11: edge 0 = (0, 1), use 0+ alone: 11."
+abbrev pub k11 : Case
+k11 = splitting splits.k11 (splits.k11 .edges) splits.k11Answer
+
+-- "K12: edges 0 to 2 are (0, 1), 3 to 5 are (1, 0), each used forward: 12."
+abbrev pub k12 : Case
+k12 = splitting splits.k12 (splits.k12 .edges) splits.k12Answer
+
+-- "K13: edges 0 to 2 all (0, 0), each used forward: wires 2+, 1+, 0+."
+abbrev pub k13 : Case
+k13 = splitting splits.k13 (splits.k13 .edges) splits.k13Answer
+
 abbrev pub cases : List Case
-cases = k1 ∷ k2 ∷ k3 ∷ k4 ∷ k5 ∷ k6 ∷ k7 ∷ k8 ∷ k9 ∷ []
+cases = k1 ∷ k2 ∷ k3 ∷ k4 ∷ k5 ∷ k6 ∷ k7 ∷ k8 ∷ k9 ∷ k10 ∷ k11 ∷ k12 ∷ k13 ∷ []
 
 pub cases-hold : allHold cases
-unfolding add sub mul div neg lt le round ofBits splitClosedEdges keptEdges newEdges newVertices addedTo replaceUse replaceEdges replaceWires middleOf halvesOf pendingOf closed lowerOf floatCause periodCause smaller awayFrom nearestOf unwrapped periodCauseOf unwrapCause getMindiff nothing insert searched firstRepeat turned secondPair dividedBy turnedDivisor wireDivisor findDivisor frontOf frontAt frontsOf pointOf pointGap gapFrom nearestFront nearestEnds
-cases-hold = (refl, (refl, (refl, (refl, (refl, (refl, (refl, (refl, (refl, tt)))))))))
+unfolding add sub mul div neg lt le round ofBits splitClosedEdges keptEdges newEdges newVertices addedTo replaceUse replaceEdges replaceWires middleOf halvesOf pendingOf closed lowerOf floatCause periodCause smaller awayFrom nearestOf unwrapped periodCauseOf unwrapCause getMindiff nothing insert searched firstRepeat turned secondPair dividedBy turnedDivisor wireDivisor findDivisor frontOf backOf frontAt backAt frontsOf pointOf pointGap gapFrom nearestFront nearestEnds steps opened tableWalk seamOf seamsOf newUses occurs markedBy splitWires
+cases-hold = (refl, (refl, (refl, (refl, (refl, (refl, (refl, (refl, (refl, ((refl, refl), ((refl, refl), ((refl, refl), ((refl, refl), tt)))))))))))))
 
 -- ---- beside document 01's cases
 

@@ -12,6 +12,7 @@ use Rattle.compress.specs.Said.{Said, result, none, refused, onResult}
 use Rattle.compress.specs.Shell.{Slices, Counts}
 use Rattle.split_closed_edges.specs.Contract.{Outcome}
 use Rattle.join.specs.Contract.{JoinOutcome}
+use Rattle.split.specs.Contract.{SplitCounts, Buffers, SplitOutcome}
 use Rattle.nearest.specs.declared.Period.{Period}
 use Rattle.nearest.specs.declared.Period.the-variants.{Absent, Every}
 use Rattle.nearest.specs.declared.BoundaryType.{BoundaryType}
@@ -49,6 +50,11 @@ pub record HostJoin (o : JoinOutcome) (before after : ℕ) (us ls : List ℕ) (r
   pub told : Told (o .said) before after r
   pub uses : us ≡ o .us
   pub lengths : ls ≡ o .ls
+
+-- ---- the split, for a host
+pub record HostBoundaries (o : SplitOutcome) (before after : SplitCounts) (buffers : Buffers) (r : ℤ) : Type 0 where
+  pub told : Told (o .said) before after r
+  pub lent : buffers ≡ o .buffers
 
 -- ---- periods: kind 0 is absent, kind 1 is the number; 1, "a kind field holds no known kind"
 unfoldable pub periodSaid : ℕ → Float → Said Period

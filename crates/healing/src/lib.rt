@@ -5,6 +5,7 @@ mod joins;
 mod kinds;
 mod periods;
 mod search;
+mod splits;
 
 ghost use Rattle.split_closed_edges.specs.Contract.{lentOf, outcomeOf};
 ghost use Rattle.healing.specs.Host.{HostShell};

@@ -7,3 +7,4 @@ pub mod Fronts
 pub mod Walking
 pub mod Demand
 pub mod Storing
+pub mod Outcome

@@ -1,13 +1,13 @@
 -- Where the loops over marks and uses stand: the edges of the face counted, the new edges marked, and their uses written.
 -- Assumes nothing.
-use mathlib.Core.Path.{_≡_, refl, ap, sym, _∙_}
+use mathlib.Core.Path.{_≡_, refl, sym, _∙_}
 use mathlib.Core.Logic.{_≢_}
 use mathlib.Core.Bool.{Bool, true, false, _&&_}
 use mathlib.Core.List.{List, [], _∷_, _++_}
-use Prim.Native.Nat.{ℕ, zero, suc, _+_, _-_, _*_, _/_, _≤_, _<_}
+use Prim.Native.Nat.{ℕ, suc, _+_, _-_, _*_, _/_, _≤_, _<_}
 use native.Mathlib.Numerals.{add-one}
 use native.Mathlib.Omega.{arith}
-use borrow.Author.Tests.{eqb-true, eqb-false, ltb-true, ltb-false, eq-eqb, ne-eqb, lt-ltb, le-ltb, le-leb, leb-true}
+use borrow.Author.Tests.{eqb-true, eqb-false, ltb-true, ltb-false, lt-ltb, le-ltb, le-leb, leb-true}
 use lib.Dec.{eqb, leb, ltb}
 use lib.ListN.{length, getD, set, take, length-set}
 use lib.Seq.{sets, take-suc, take-length, length-take-le, getD-set-same, getD-set-other}
@@ -73,10 +73,6 @@ pub record Marking (m n : ℕ) (ms₀ ms : List ℕ) (i : ℕ) : Type 0 where
   pub i-le : i ≤ n
   pub same : length ms ≡ length ms₀
   pub marked : (k : ℕ) → getD ms k 0 ≡ pick (leb m k && ltb k (m + i)) 2 (getD ms₀ k 0)
-
-and-none : (b : Bool) → (b && false) ≡ false
-and-none true = refl
-and-none false = refl
 
 -- another number is below the next number where it is below the number
 next-other : (k a : ℕ) → k ≢ a → ltb k (a + 1) ≡ ltb k a

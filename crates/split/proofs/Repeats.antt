@@ -6,11 +6,10 @@ use mathlib.Core.List.{List, [], _∷_}
 use Prim.Native.Nat.{ℕ, zero, suc, _+_, _≤_, _<_}
 use native.Mathlib.Numerals.{add-one}
 use native.Mathlib.Omega.{arith}
-use borrow.Author.Tests.{eqb-true, eqb-false, eq-eqb, ne-eqb, lt-ltb, le-ltb}
+use borrow.Author.Tests.{eqb-true, eqb-false, lt-ltb, le-ltb}
 use lib.Dec.{eqb, ltb}
 use lib.ListN.{length, getD, set, take, drop, replicate, length-set, length-replicate}
 use lib.Seq.{drop-cons, drop-length, length-take-le, getD-take, getD-set-same, getD-set-other}
-use Rattle.checks.specs.Causes.{when}
 use Rattle.split.specs.Seams.{stands, repeatsAfter}
 use Rattle.split.specs.Contract.{repeatCause}
 

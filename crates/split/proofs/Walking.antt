@@ -3,17 +3,17 @@
 use mathlib.Core.Path.{_≡_, refl, ap, sym, _∙_}
 use mathlib.Core.Bool.{Bool, true, false, _||_}
 use mathlib.Core.List.{List, [], _∷_, _++_}
-use Prim.Native.Nat.{ℕ, zero, suc, _+_, _-_, _*_, _/_, _%_, _≤_, _<_}
+use Prim.Native.Nat.{ℕ, suc, _+_, _-_, _*_, _/_, _≤_, _<_}
 use native.Mathlib.Omega.{arith}
 use native.Mathlib.Decide.{decLt}
 use borrow.Author.Tests.{ltb-true, ltb-false, leb-true, leb-false, ne-eqb, lt-ltb, le-ltb}
 use lib.Dec.{eqb, leb, ltb}
 use lib.ListN.{length, getD, take, drop, replicate, length-append, length-drop, List·getD-append, List·getD-eq-default}
-use lib.Seq.{sets, take-all, take-at, length-take-le, getD-append-add}
+use lib.Seq.{sets, take-all, take-at, getD-append-add}
 use Rattle.compress.specs.Records.{pick}
 use Rattle.compress.proofs.Cells.{take-sets}
-use Rattle.walk.specs.Ends.{endIn, endOf, frontOf, backOf, markedOf, HasEnds, Sound}
-use Rattle.walk.specs.Walk.{Answer, walk}
+use Rattle.walk.specs.Ends.{endIn, endOf, frontOf, backOf, markedOf, Sound}
+use Rattle.walk.specs.Walk.{walk}
 use Rattle.walk.specs.declared.Walked.{Walked}
 use Rattle.walk.specs.Answered.{Traced}
 use Rattle.split.specs.Seams.{newUses, occurs, isNewEdge, markedBy}

@@ -11,6 +11,7 @@ ghost use Rattle.compress.specs.Rows.{edgeNumbers, edgeFloats};
 ghost use Rattle.checks.specs.Causes.{lowestOf};
 ghost use Rattle.split.specs.Seams.{stopAt, seamOf, seamsOf, newUses, occurs, isNewEdge};
 ghost use Rattle.split.specs.Contract.{oddCause, repeatCause, stopCause, stopsCause, splitWiresCause, roomCause, lentSplit, leavesSplit, splitInputCause, splitCause, splitOutcome};
+ghost use Rattle.split.specs.Demand.{KeepsUses};
 ghost use Rattle.split.specs.Steps.{Walkable, lentWalk, Roomy, afterLent};
 ghost use Rattle.walk.specs.Answered.{Traced};
 use compress::Curve;
@@ -452,4 +453,64 @@ fn split_cause(
         return odd;
     }
     repeat_cause(divisor, count)
+}
+
+// `split_boundaries_by_divisor`, from `duplicated_edges` on: the new edges are appended to the edge table, and the wires that the walk builds go to
+// `uses` and `lengths`. A refusal changes nothing lent.
+pub fn split_boundaries_by_divisor(
+    edge_numbers: &mut [u32],
+    edge_floats: &mut [f64],
+    face_uses: &[u32],
+    face_lengths: &[u32],
+    rebuilt_uses: &[u32],
+    rebuilt_lengths: &[u32],
+    divisor: &[u32],
+    points: &[f64],
+    uses: &mut [u32],
+    lengths: &mut [u32],
+    vertices: usize,
+    edges: usize,
+    face_wires: usize,
+    rebuilt_wires: usize,
+    count: usize,
+    surface: u32,
+) -> Boundaries
+    ensures { λ r. ⌜ leavesSplit r (now («edge_numbers» .exit)) (now («edge_floats» .exit)) (now (uses .exit)) (now (lengths .exit)) ≡ splitOutcome (lentSplit (now («edge_numbers» .entry)) (now («edge_floats» .entry)) (now («face_uses» .entry)) (now («face_lengths» .entry)) (now («rebuilt_uses» .entry)) (now («rebuilt_lengths» .entry)) (now (divisor .entry)) (now (points .entry)) (now (uses .entry)) (now (lengths .entry)) vertices edges «face_wires» «rebuilt_wires» count surface) ⌝ }
+    ensures { λ r. ⌜ KeepsUses (lentSplit (now («edge_numbers» .entry)) (now («edge_floats» .entry)) (now («face_uses» .entry)) (now («face_lengths» .entry)) (now («rebuilt_uses» .entry)) (now («rebuilt_lengths» .entry)) (now (divisor .entry)) (now (points .entry)) (now (uses .entry)) (now (lengths .entry)) vertices edges «face_wires» «rebuilt_wires» count surface) (leavesSplit r (now («edge_numbers» .exit)) (now («edge_floats» .exit)) (now (uses .exit)) (now (lengths .exit))) ⌝ }
+{
+    let cause = split_cause(
+        edge_numbers,
+        edge_floats,
+        face_uses,
+        face_lengths,
+        rebuilt_uses,
+        rebuilt_lengths,
+        divisor,
+        points,
+        uses,
+        lengths,
+        vertices,
+        edges,
+        face_wires,
+        rebuilt_wires,
+        count,
+    );
+    if cause != 0 {
+        return Boundaries::SplitRefused(compress::refusal_of(cause));
+    }
+    let n = checks::total_uses(face_lengths, face_wires);
+    let m = checks::total_uses(rebuilt_lengths, rebuilt_wires);
+    split_checked(
+        edge_numbers,
+        edge_floats,
+        &face_uses[..n],
+        &rebuilt_uses[..m],
+        &divisor[..count],
+        points,
+        uses,
+        lengths,
+        edges,
+        count / 2,
+        surface,
+    )
 }

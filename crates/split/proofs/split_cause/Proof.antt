@@ -1,7 +1,6 @@
 -- `split::split_cause` meets its contract. Assumes nothing.
 use mathlib.Core.Path.{_∙_, sym}
 use native.Mathlib.Omega.{arith}
-use Rattle.split.specs.Contract.{lentSplit, LentSplit}
 use Rattle.split.proofs.Accepted.{input-accepted, cause-input, cause-room, cause-odd, cause-repeat}
 use borrow.Author.Needs.{needs}
 use Rattle.split.proofs.split_cause.Statement.{statement}
