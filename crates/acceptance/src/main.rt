@@ -1,12 +1,16 @@
-// Document 01's worked cases that are run, K15 to K19 so far: a line for each, with its name and `same` where the whole answer, lent buffers
+// Document 01's worked cases that are run, K14 to K19: a line for each, with its name and `same` where the whole answer, lent buffers
 // included, is document 01's, else `other`.
 ghost use mathlib.Core.Path.{_≡_};
-ghost use mathlib.Core.Bool.{true};
+ghost use mathlib.Core.Bool.{true, false};
+ghost use Prim.Native.Nat.{ℕ, _<_};
+ghost use lib.Ieee.{nan, binary64, ofBits, ne};
+ghost use lib.ListN.{length, getD};
 use compress::Uv;
 use join::Join;
 use libc::STDOUT_FILENO;
 use nearest::BoundaryType;
 use nearest::WireKind;
+use split::Boundaries;
 
 // Both hold the same numbers.
 fn is_same(a: &[u32], b: &[u32]) -> bool
@@ -23,6 +27,77 @@ fn is_same(a: &[u32], b: &[u32]) -> bool
         i += 1;
     }
     true
+}
+
+// Every float is zero.
+fn are_zero(floats: &[f64]) -> bool
+    ensures { λ r. ⌜ (r ≡ true → (k : ℕ) → k < length (now (floats .entry)) → ne (getD (now (floats .entry)) k nan) (ofBits binary64 0) ≡ false) ⌝ }
+{
+    let mut i: usize = 0;
+    while i < floats.len() {
+        if floats[i] != 0.0 {
+            return false;
+        }
+        i += 1;
+    }
+    true
+}
+
+// "K14: list of one vertex: 9." K9's edges and wire, as the face and to be rebuilt; every buffer holds 99 and is left.
+fn is_k14_same() -> bool {
+    let rows = [
+        0u32,
+        2,
+        0,
+        0,
+        0,
+        1,
+        0,
+        0,
+        1,
+        0,
+        0,
+        0,
+        2,
+        3,
+        0,
+        0,
+        3,
+        2,
+        0,
+        0,
+    ];
+    let wire = [2u32, 4, 0, 6, 8, 1];
+    let mut numbers = rows;
+    let mut floats = [0.0f64; 36];
+    let mut uses = [99u32; 8];
+    let mut lengths = [99u32; 8];
+    let answer = split::split_boundaries_by_divisor(
+        &mut numbers,
+        &mut floats,
+        &wire,
+        &[6],
+        &wire,
+        &[6],
+        &[3],
+        &[0.0, 0.0],
+        &mut uses,
+        &mut lengths,
+        4,
+        5,
+        1,
+        1,
+        1,
+        7,
+    );
+    let Boundaries::SplitRefused(r) = answer else {
+        return false;
+    };
+    let a = is_same(&numbers, &rows);
+    let b = is_same(&uses, &[99; 8]);
+    let c = is_same(&lengths, &[99; 8]);
+    let d = are_zero(&floats);
+    a & b & c & d & (compress::refusal_number(r) == 9)
 }
 
 // The join of K15 and K16, over K9's edges, with the new wire 0+ 0-, v0 0 and v1 2. The cells past the new wire hold 99.
@@ -142,6 +217,7 @@ fn write_case(name: &[u8], is_same: bool) {
 }
 
 fn main() {
+    write_case(b"K14", is_k14_same());
     write_case(b"K15", is_k15_same());
     write_case(b"K16", is_k16_same());
     write_case(b"K17", is_k17_same());
