@@ -46,17 +46,11 @@ fn search(notation: &str) -> Option<(usize, usize)> {
     find_non_simple_wire_divisor(&[wire(notation)], &edges(&[]), &vertices())
 }
 
-/// The split as the Rust does it once the vertices on the divisor are known.
+/// The split of a face that is rebuilt whole.
 fn split(face: &[Wire], list: &[usize], edges: &mut Vec<Edge<On<Point3>>>) -> Vec<Wire> {
     let place = |&v: &usize| (0.0, (v, Point2::new(v as f64, 0.5)));
     let on_divisor: Vec<_> = list.iter().map(place).collect();
-    let mut marked = duplicated_edges(face.iter().flatten().map(|edge_use| edge_use.index));
-    let surface = Surface { number: 3 };
-    let new = create_new_edges(&on_divisor, &mut Vec::new(), &surface, 0.1).unwrap();
-    let (range, new_uses) = signup_new_edges(edges, new);
-    marked.extend(range);
-    let vemap = create_vemap(edges, face.iter().flatten().copied().chain(new_uses));
-    construct_boundaries(vemap, edges, &marked)
+    ways::split(face, face, &on_divisor, Surface { number: 3 }, edges)
 }
 
 #[test]
@@ -122,6 +116,28 @@ fn k12_crowd() {
 fn k13_loops_at_one_vertex() {
     let wires = split(&[wire("0+ 1+ 2+")], &[], &mut all_edges(&[(0, 0); 3]));
     assert_eq!(wires, [wire("2+"), wire("1+"), wire("0+")]);
+}
+
+/// The list of K14: its one vertex makes a chunk without a second.
+#[test]
+#[should_panic(expected = "index out of bounds: the len is 1 but the index is 1")]
+fn k14_odd_list() {
+    split(&[], &[0], &mut all_edges(&[(0, 1)]));
+}
+
+/// A vertex twice on the divisor: the Rust makes a closed seam, and each of
+/// its two uses is a wire.
+#[test]
+fn a_vertex_twice_on_the_divisor() {
+    let mut edges = all_edges(&[]);
+    let wires = split(&[], &[0, 0], &mut edges);
+    assert_eq!(wires, [wire("0-"), wire("0+")]);
+    assert_eq!(edges[0].vertices, (0, 0));
+}
+
+#[test]
+fn no_uses_and_no_list() {
+    assert_eq!(split(&[], &[], &mut all_edges(&[])), [wire(""); 0]);
 }
 
 #[test]
