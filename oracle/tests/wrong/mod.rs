@@ -6,6 +6,7 @@ pub mod join;
 pub mod near;
 pub mod pass;
 pub mod search;
+pub mod split;
 
 use oracle::port::{Cut, Join, Nearest, NearestCopy, Pass, Port};
 use oracle::port::{Search, Sort, Split, Unwrap, WireEnds};
@@ -27,6 +28,7 @@ pub fn lists(call: &str) -> Vec<Vec<Mutant>> {
         "find_non_simple_wire_divisor" => search::lists_of_search(),
         "cut_edge_by_intersections" => cut::lists(),
         "connect_open_boundaries" => join::lists(),
+        "split_boundaries_by_divisor" => split::lists(),
         _ => panic!("no call of the name {call}"),
     }
 }
