@@ -135,6 +135,59 @@ fn a_vertex_twice_on_the_divisor() {
     assert_eq!(edges[0].vertices, (0, 0));
 }
 
+/// A vertex in two pairs: its list has a use of either seam.
+#[test]
+fn a_vertex_in_two_pairs() {
+    let wires = split(&[], &[0, 1, 0, 2], &mut all_edges(&[]));
+    assert_eq!(wires, [wire("1+ 1-"), wire("0+ 0-")]);
+}
+
+/// A list of three: the first pair is made, and then the last vertex panics.
+#[test]
+#[should_panic(expected = "index out of bounds: the len is 1 but the index is 1")]
+fn a_list_of_three() {
+    split(&[], &[0, 1, 2], &mut all_edges(&[]));
+}
+
+/// The least crowd: one edge, and three uses of it at its second vertex.
+#[test]
+#[should_panic(expected = "something wrong")]
+fn the_least_crowd() {
+    split(&[wire("0+ 0- 0- 0-")], &[], &mut all_edges(&[(0, 1)]));
+}
+
+/// The new edges are appended before the walk and stay when it panics.
+#[test]
+fn a_dead_end_leaves_the_new_edges() {
+    let mut edges = all_edges(&[(0, 1)]);
+    let walk = || split(&[wire("0+")], &[2, 3], &mut edges);
+    let said = crate::healing::quiet::caught(walk).unwrap_err();
+    assert_eq!(said, "internal error: entered unreachable code");
+    assert_eq!((edges.len(), edges[1].vertices), (2, (2, 3)));
+}
+
+/// The split is not handed the vertices: any number is one.
+#[test]
+fn vertices_are_not_looked_at() {
+    let wires = split(&[wire("0+")], &[], &mut all_edges(&[(9, 9)]));
+    assert_eq!(wires, [wire("0+")]);
+}
+
+/// A use of an edge that is not there.
+#[test]
+#[should_panic(expected = "index out of bounds: the len is 1 but the index is 1")]
+fn a_use_of_no_edge() {
+    split(&[wire("1+")], &[], &mut all_edges(&[(0, 0)]));
+}
+
+/// The Rust has no bound on wires or uses out.
+#[test]
+fn more_uses_than_the_bound() {
+    let uses = wire(&"0+ ".repeat(1024));
+    let wires = split(&[uses], &[1, 2], &mut all_edges(&[(0, 0)]));
+    assert_eq!((wires.len(), wires.concat().len()), (1025, 1026));
+}
+
 #[test]
 fn no_uses_and_no_list() {
     assert_eq!(split(&[], &[], &mut all_edges(&[])), [wire(""); 0]);
