@@ -15,12 +15,15 @@ pub fn cases() -> Vec<Case<SplitWires>> {
     [
         results(),
         orders(),
+        pairs(),
         marks(),
         all_marks(),
         other_faces(),
         walks(),
+        loops(),
         long_walks(),
         stuck(),
+        crowds(),
         first_reached(),
         vec![cell_by_cell()],
         floats(),
@@ -169,25 +172,18 @@ fn orders() -> Vec<Case<SplitWires>> {
             &[1, 3],
             &["0+ 3+ 5- 2+", "1+ 5+ 4+ 0-"],
         ),
-        gives("one pair and no uses", &[], &[1, 0], &["5- 5+"]),
-        gives(
-            "two pairs and no uses",
-            &[],
-            &[0, 1, 2, 3],
-            &["5+ 5-", "6+ 6-"],
-        ),
-        gives(
-            "two pairs, falling",
-            &[],
-            &[3, 2, 1, 0],
-            &["6- 6+", "5- 5+"],
-        ),
-        gives(
-            "two pairs that cross",
-            &[],
-            &[0, 2, 1, 3],
-            &["5+ 5-", "6+ 6-"],
-        ),
+    ]
+}
+
+/// Pairs with nothing to be rebuilt.
+fn pairs() -> Vec<Case<SplitWires>> {
+    let gives = |name, list: &[u32], after: &[&str]| done(name, of_k9(&[K9], &[], list), after);
+    let both = ["5+ 5-", "6+ 6-"];
+    vec![
+        gives("one pair and no uses", &[1, 0], &["5- 5+"]),
+        gives("two pairs and no uses", &[0, 1, 2, 3], &both),
+        gives("two pairs, falling", &[3, 2, 1, 0], &["6- 6+", "5- 5+"]),
+        gives("two pairs that cross", &[0, 2, 1, 3], &both),
     ]
 }
 
@@ -263,51 +259,58 @@ fn other_faces() -> Vec<Case<SplitWires>> {
     ]
 }
 
-/// Walks at loops and over one vertex.
+/// An input over edges with these ends that is split into these wires.
+fn walked(
+    name: &'static str,
+    ends: &[(u32, u32)],
+    [face, rebuilt]: [&str; 2],
+    after: &[&str],
+) -> Case<SplitWires> {
+    done(name, over(&spans(ends), &[face], &[rebuilt], &[]), after)
+}
+
+/// Walks over few vertices.
 fn walks() -> Vec<Case<SplitWires>> {
-    let gives = |name, ends: &[(u32, u32)], face: &str, rebuilt: &str, after: &[&str]| {
-        done(name, over(&spans(ends), &[face], &[rebuilt], &[]), after)
-    };
-    let side = [(0, 1), (1, 1), (1, 0)];
     let star = [(0, 1), (0, 2), (0, 3)];
+    let all = "0+ 0- 1+ 1- 2+ 2-";
+    let rings = [(4, 2), (2, 4), (3, 1), (1, 3)];
+    let from_one = ["3+ 2+", "1+ 0+"];
     vec![
-        gives(
-            "a loop beside the way",
-            &side,
-            "",
-            "0+ 1+ 2+",
-            &["0+ 2+", "1+"],
-        ),
-        gives(
-            "a marked loop on the way",
-            &side,
-            "1+ 1+",
-            "0+ 1+ 2+",
-            &["0+ 1+ 2+"],
-        ),
-        gives("there and back", &[(0, 1)], "", "0- 0+", &["0+ 0-"]),
-        gives("a loop reversed", &[(0, 0)], "", "0-", &["0-"]),
-        gives(
-            "a loop in both directions",
-            &[(0, 0)],
-            "",
-            "0+ 0-",
-            &["0-", "0+"],
-        ),
+        walked("there and back", &[(0, 1)], ["", "0- 0+"], &["0+ 0-"]),
         // The start has three uses, and no other vertex more than one.
-        gives(
+        walked(
             "three uses at the start",
             &star,
-            "",
-            "0+ 0- 1+ 1- 2+ 2-",
+            ["", all],
             &["2+ 2-", "1+ 1-", "0+ 0-"],
         ),
-        gives(
+        walked(
             "from the smallest vertex",
-            &[(4, 2), (2, 4), (3, 1), (1, 3)],
-            "",
-            "0+ 1+ 2+ 3+",
-            &["3+ 2+", "1+ 0+"],
+            &rings,
+            ["", "0+ 1+ 2+ 3+"],
+            &from_one,
+        ),
+    ]
+}
+
+/// Walks by loops.
+fn loops() -> Vec<Case<SplitWires>> {
+    let side = [(0, 1), (1, 1), (1, 0)];
+    let uses = "0+ 1+ 2+";
+    vec![
+        walked("a loop reversed", &[(0, 0)], ["", "0-"], &["0-"]),
+        walked(
+            "a loop in both directions",
+            &[(0, 0)],
+            ["", "0+ 0-"],
+            &["0-", "0+"],
+        ),
+        walked("a loop beside the way", &side, ["", uses], &["0+ 2+", "1+"]),
+        walked(
+            "a marked loop on the way",
+            &side,
+            ["1+ 1+", uses],
+            &["0+ 1+ 2+"],
         ),
     ]
 }
@@ -344,13 +347,12 @@ fn long_walks() -> Vec<Case<SplitWires>> {
     ]
 }
 
-/// Walks that come to a dead end or to a crowd.
+/// Walks that come to a dead end.
 fn stuck() -> Vec<Case<SplitWires>> {
     let no = |name, number, ends: &[(u32, u32)], rebuilt: &str, list: &[u32]| {
         let input = over(&spans(ends), &[], &[rebuilt], list);
         Case::unchanged(name, input, number)
     };
-    let behind = [(0, 0), (1, 2), (1, 2), (1, 2), (2, 1), (2, 1), (2, 1)];
     vec![
         no("a use alone, reversed", 11, &[(0, 1)], "0-", &[]),
         no("a dead end with a pair", 11, &[(0, 1)], "0+", &[2, 3]),
@@ -370,20 +372,20 @@ fn stuck() -> Vec<Case<SplitWires>> {
             &[],
         ),
         no("one use too many", 11, &[(0, 1)], "0+ 0- 0+", &[]),
-        no(
-            "a crowd behind a wire",
-            12,
-            &behind,
-            "0+ 1+ 2+ 3+ 4+ 5+ 6+",
-            &[],
-        ),
-        no(
-            "a crowd of four",
-            12,
-            &[(0, 1), (1, 0)],
-            "0+ 1+ 1+ 1+ 1+",
-            &[],
-        ),
+    ]
+}
+
+/// Walks that come to a crowd.
+fn crowds() -> Vec<Case<SplitWires>> {
+    let no = |name, ends: &[(u32, u32)], rebuilt: &str| {
+        let input = over(&spans(ends), &[], &[rebuilt], &[]);
+        Case::unchanged(name, input, 12)
+    };
+    let behind = [(0, 0), (1, 2), (1, 2), (1, 2), (2, 1), (2, 1), (2, 1)];
+    vec![
+        no("the least crowd", &[(0, 1)], "0+ 0- 0- 0-"),
+        no("a crowd behind a wire", &behind, "0+ 1+ 2+ 3+ 4+ 5+ 6+"),
+        no("a crowd of four", &[(0, 1), (1, 0)], "0+ 1+ 1+ 1+ 1+"),
         Case::unchanged("a crowd by a pair", of_k9(&[K9], &[K9], &[2, 1]), 12),
     ]
 }

@@ -354,26 +354,32 @@ fn shorten_input(random: &mut Random, input: &mut SplitWires) {
     }
 }
 
-/// Cells of random bits, half of the time of small numbers.
+/// A few numbers, mostly below a bound where they shall be tame.
+fn cells(random: &mut Random, tame: bool, most: usize) -> Vec<u32> {
+    let cell = |random: &mut Random| match tame && !random.once_in(48) {
+        true => random.below(most) as u32,
+        false => random.word() as u32,
+    };
+    (0..random.below(14)).map(|_| cell(random)).collect()
+}
+
+/// One of a few counts, or any.
+fn count(random: &mut Random, few: &[usize]) -> usize {
+    match random.once_in(6) {
+        true => any_count(random),
+        false => random.pick(few),
+    }
+}
+
+/// Cells of random bits, most of the time of small numbers.
 pub fn noise(random: &mut Random) -> SplitWires {
     let lent = noisy(random);
     let mut tables = lent.tables;
     (tables.vertex_numbers, tables.vertex_floats) = (Vec::new(), Vec::new());
     let tame = !random.once_in(3);
-    let cells = |random: &mut Random, most: usize| -> Vec<u32> {
-        let cell = |random: &mut Random| match tame && !random.once_in(48) {
-            true => random.below(most) as u32,
-            false => random.word() as u32,
-        };
-        (0..random.below(14)).map(|_| cell(random)).collect()
-    };
-    let count = |random: &mut Random, few: &[usize]| match random.once_in(6) {
-        true => any_count(random),
-        false => random.pick(few),
-    };
     let set = |random: &mut Random| WireCells {
-        uses: cells(random, 5),
-        lengths: cells(random, 3),
+        uses: cells(random, tame, 5),
+        lengths: cells(random, tame, 3),
         wires: count(random, &[0, 0, 1, 2]),
     };
     let (face, rebuilt) = (set(random), set(random));
@@ -387,7 +393,7 @@ pub fn noise(random: &mut Random) -> SplitWires {
         tables,
         face,
         rebuilt,
-        divisor: cells(random, 3),
+        divisor: cells(random, tame, 3),
         points: (0..random.below(14)).map(|_| point(random)).collect(),
         divisor_count: count(random, &[0, 0, 1, 2, 2]),
         surface: random.word() as u32,

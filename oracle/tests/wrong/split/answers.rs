@@ -10,7 +10,9 @@ pub fn lists() -> Vec<Vec<Mutant>> {
         wrong_wires(),
         wrong_refusals(),
         wrong_places(),
+        wrong_places_refused(),
         wrong_writes(),
+        wrong_writes_of_wires(),
         wrong_cells(),
         wrong_behind(),
     ]
@@ -18,6 +20,14 @@ pub fn lists() -> Vec<Vec<Mutant>> {
 
 /// Wires and counts that demand 3 alone finds to be wrong.
 pub fn wrong_tallies() -> Vec<Mutant> {
+    [wrong_lists_of_wires(), wrong_tallies_told(), wrong_shapes()]
+        .into_iter()
+        .flatten()
+        .collect()
+}
+
+/// Wires that are lost or come twice.
+fn wrong_lists_of_wires() -> Vec<Mutant> {
     vec![
         after("every call that is walked refused", |answer, kept, call| {
             kept.put_back(call);
@@ -33,6 +43,12 @@ pub fn wrong_tallies() -> Vec<Mutant> {
                 vec![first; wires.len()]
             }
         }),
+    ]
+}
+
+/// Counts and lengths that are wrong.
+fn wrong_tallies_told() -> Vec<Mutant> {
+    vec![
         after("an invented wire count", |answer, _, call| {
             call.out[0] += usize::from(answer == 0);
             answer
@@ -49,6 +65,12 @@ pub fn wrong_tallies() -> Vec<Mutant> {
                 wires
             }
         }),
+    ]
+}
+
+/// Uses that are put into wires wrongly.
+fn wrong_shapes() -> Vec<Mutant> {
+    vec![
         step("all uses in one wire", |r| {
             r.split.wires = |wires| match wires.is_empty() {
                 true => wires,
@@ -175,6 +197,12 @@ fn wrong_places() -> Vec<Mutant> {
             }
             answer
         }),
+    ]
+}
+
+/// Out places that are written where nothing is answered.
+fn wrong_places_refused() -> Vec<Mutant> {
+    vec![
         after("places written on a refusal", |answer, _, call| {
             if answer > 0 {
                 call.out.fill(0);
@@ -240,6 +268,12 @@ fn wrong_writes() -> Vec<Mutant> {
                 answer
             },
         ),
+    ]
+}
+
+/// Uses and lengths that are written where nothing is answered.
+fn wrong_writes_of_wires() -> Vec<Mutant> {
+    vec![
         after("uses written before a dead end", |answer, _, call| {
             if let (11, Some(cell)) = (answer, call.uses.first_mut()) {
                 *cell = 0;

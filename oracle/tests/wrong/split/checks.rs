@@ -12,13 +12,20 @@ use oracle::shell::{EDGE_FLOATS, EDGE_NUMBERS};
 pub fn lists() -> Vec<Vec<Mutant>> {
     vec![
         wrong_order(),
+        wrong_order_of_others(),
         wrong_room(),
+        wrong_spare(),
         wrong_bounds_out(),
         wrong_bounds(),
+        wrong_bounds_of_uses(),
         wrong_counts(),
+        wrong_wrapping(),
         wrong_numbers(),
+        wrong_uses(),
         wrong_sight(),
+        wrong_sight_of_buffers(),
         wrong_rows(),
+        wrong_kinds(),
         wrong_choice(),
     ]
 }
@@ -50,6 +57,12 @@ fn wrong_order() -> Vec<Mutant> {
         step("9 for a vertex twice", |r| {
             r.split.late = |holds| first([6, 9, 10], holds).map(|number| number.min(9))
         }),
+    ]
+}
+
+/// Other causes in a wrong order.
+fn wrong_order_of_others() -> Vec<Mutant> {
+    vec![
         after("6 before 5", |answer, kept, call| {
             match answer == 5
                 && kept.uses.len() < call.rebuilt.lengths.iter().take(1).sum::<u32>() as usize
@@ -119,6 +132,12 @@ fn wrong_room() -> Vec<Mutant> {
                     && fits(call, uses, edges.min(rows))
             }
         }),
+    ]
+}
+
+/// Room that is asked for and not needed.
+fn wrong_spare() -> Vec<Mutant> {
+    vec![
         step("a spare use is asked for", |r| {
             r.split.fits = |call, uses, edges| uses < call.uses.len() && fits(call, uses, edges)
         }),
@@ -228,6 +247,12 @@ fn wrong_bounds() -> Vec<Mutant> {
                 )
             }
         }),
+    ]
+}
+
+/// Bounds on uses and on lists that are wrong.
+fn wrong_bounds_of_uses() -> Vec<Mutant> {
+    vec![
         step("1024 uses are too many", |r| {
             r.tables.split_causes = |call| match lent_in_full(call) {
                 true if sum(&call.face) + sum(&call.rebuilt) == 1024 => vec![1],
@@ -285,6 +310,12 @@ fn wrong_counts() -> Vec<Mutant> {
                 _ => answer,
             }
         }),
+    ]
+}
+
+/// Counts that wrap, or that are taken one too low.
+fn wrong_wrapping() -> Vec<Mutant> {
+    vec![
         after("wire counts wrap", |answer, _, call| {
             let wires = call.face.wires.wrapping_add(call.rebuilt.wires);
             match (answer, wires) {
@@ -337,6 +368,12 @@ fn wrong_numbers() -> Vec<Mutant> {
                 found
             }
         }),
+    ]
+}
+
+/// Uses that are not looked at.
+fn wrong_uses() -> Vec<Mutant> {
+    vec![
         after("face uses not looked at", |answer, _, call| {
             let beyond = |number: &u32| *number as usize / 2 >= call.edges;
             match answer {
@@ -362,14 +399,15 @@ fn wrong_numbers() -> Vec<Mutant> {
     ]
 }
 
+/// The causes, and one more where such a cell is there.
+fn and(call: &Split, number: i32, there: bool) -> Vec<i32> {
+    let mut found = split_causes(call);
+    found.extend(there.then_some(number));
+    found
+}
+
 /// Cells that are no input and are looked at.
 fn wrong_sight() -> Vec<Mutant> {
-    /// The causes, and one more where such a cell is there.
-    fn and(call: &Split, number: i32, there: bool) -> Vec<i32> {
-        let mut found = split_causes(call);
-        found.extend(there.then_some(number));
-        found
-    }
     vec![
         step("uses behind the wires are looked at", |r| {
             r.tables.split_causes = |call| {
@@ -395,6 +433,12 @@ fn wrong_sight() -> Vec<Mutant> {
                 and(call, 4, call.points.iter().any(unfit))
             }
         }),
+    ]
+}
+
+/// Cells of the buffers for the result that are looked at.
+fn wrong_sight_of_buffers() -> Vec<Mutant> {
+    vec![
         step("the buffer for uses is looked at", |r| {
             r.tables.split_causes = |call| {
                 let beyond = |&number: &u32| number == u32::MAX;
@@ -437,6 +481,12 @@ fn wrong_rows() -> Vec<Mutant> {
                 found
             }
         }),
+    ]
+}
+
+/// Kinds and points that pass.
+fn wrong_kinds() -> Vec<Mutant> {
+    vec![
         step("unknown kinds pass", |r| {
             r.tables.split_causes = |call| {
                 let rows = call.rows();

@@ -9,15 +9,21 @@ use std::ops::Range;
 pub fn lists() -> Vec<Vec<Mutant>> {
     vec![
         wrong_choices(),
+        wrong_marks_looked_at(),
         wrong_starts(),
         wrong_ends(),
+        wrong_crowds(),
+        wrong_taking(),
         wrong_marks(),
+        wrong_marks_of_seams(),
         wrong_counts_of_marks(),
         wrong_orders(),
         wrong_tallies(),
         wrong_seams(),
         wrong_curves(),
         wrong_pairs(),
+        wrong_partners(),
+        wrong_repeats(),
     ]
 }
 
@@ -44,6 +50,12 @@ fn wrong_choices() -> Vec<Mutant> {
                 _ => Err(12),
             }
         }),
+    ]
+}
+
+/// The marks of other uses decide.
+fn wrong_marks_looked_at() -> Vec<Mutant> {
+    vec![
         step("the second use's mark looked at", |r| {
             r.split.next = |before, list| match *list {
                 [_] => Ok(0),
@@ -116,6 +128,12 @@ fn wrong_ends() -> Vec<Mutant> {
                 _ => Err(11),
             }
         }),
+    ]
+}
+
+/// Crowds that are walked through, or two that are one.
+fn wrong_crowds() -> Vec<Mutant> {
+    vec![
         step("three walked through", |r| {
             r.split.next = |before, list| match *list {
                 [_] => Ok(0),
@@ -137,6 +155,12 @@ fn wrong_ends() -> Vec<Mutant> {
                 _ => Err(12),
             }
         }),
+    ]
+}
+
+/// Uses that are taken out of a list wrongly.
+fn wrong_taking() -> Vec<Mutant> {
+    vec![
         step("an emptied list kept", |r| {
             r.split.take = |lists, vertex, place| {
                 let list = lists.get_mut(&vertex).expect("a list");
@@ -176,6 +200,12 @@ fn wrong_marks() -> Vec<Mutant> {
         step("marks from both sets together", |r| {
             r.split.marked = |face, rebuilt, new| marked(&[face, rebuilt].concat(), &[], new)
         }),
+    ]
+}
+
+/// Marks that new edges have wrongly or have not.
+fn wrong_marks_of_seams() -> Vec<Mutant> {
+    vec![
         step("new edges unmarked", |r| {
             r.split.marked = |face, _, new| {
                 let mut marks = marked(face, &[], new.clone());
@@ -387,6 +417,12 @@ fn wrong_pairs() -> Vec<Mutant> {
         step("only a list of one is odd", |r| {
             r.split.odd = |count| count == 1
         }),
+    ]
+}
+
+/// Vertices that are paired with others.
+fn wrong_partners() -> Vec<Mutant> {
+    vec![
         step("pairs that overlap", |r| {
             r.split.pairs = |count| (1..count).map(|place| [place - 1, place]).collect()
         }),
@@ -413,6 +449,12 @@ fn wrong_pairs() -> Vec<Mutant> {
         step("only the first pair", |r| {
             r.split.pairs = |count| (0..(count / 2).min(1)).map(|_| [0, 1]).collect()
         }),
+    ]
+}
+
+/// Vertices that stand twice on the divisor and pass.
+fn wrong_repeats() -> Vec<Mutant> {
+    vec![
         step("a vertex twice passes", |r| r.split.repeated = |_| false),
         step("only neighbours may not be equal", |r| {
             r.split.repeated = |list| list.windows(2).any(|pair| pair[0] == pair[1])
