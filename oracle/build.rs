@@ -6,7 +6,7 @@ use std::fs;
 use std::path::{Path, PathBuf};
 
 /// The calls that an archive may have or not have yet.
-const LATER: [&str; 8] = [
+const LATER: [&str; 9] = [
     "get_mindiff",
     "nearest_copy",
     "boundary_type",
@@ -15,6 +15,7 @@ const LATER: [&str; 8] = [
     "find_non_simple_wire_divisor",
     "cut_edge_by_intersections",
     "connect_open_boundaries",
+    "split_boundaries_by_divisor",
 ];
 
 fn main() {

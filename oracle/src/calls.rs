@@ -11,6 +11,7 @@ pub mod nearest_correction;
 pub mod numbers;
 pub mod sort_wires;
 pub mod split_closed_edges;
+pub mod split_wires;
 pub mod tables;
 
 use crate::compare::{Case, Input};

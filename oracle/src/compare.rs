@@ -67,6 +67,12 @@ pub trait Input: Clone + PartialEq {
 
     /// The input in a form that can be read.
     fn describe(&self) -> String;
+
+    /// What an answer, its out values and the slices afterwards break of what
+    /// must hold of every answer, whatever the Rust says.
+    fn breach(&self, _answer: i32, _out: &[u64], _after: &[Cells]) -> Option<&'static str> {
+        None
+    }
 }
 
 /// What an out place holds before a call.
@@ -171,7 +177,7 @@ fn outcome<I: Input>(port: &dyn Port, input: &I) -> Outcome {
 }
 
 /// The first way in which an outcome is not as it should be.
-fn differs<I: Input>(got: &Outcome, expected: &Expected<I>) -> Option<String> {
+fn differs<I: Input>(input: &I, got: &Outcome, expected: &Expected<I>) -> Option<String> {
     if got.answer != expected.answer {
         let (is, should) = (got.answer, expected.answer);
         return Some(format!("the answer is {is} and should be {should}"));
@@ -187,10 +193,18 @@ fn differs<I: Input>(got: &Outcome, expected: &Expected<I>) -> Option<String> {
     }
     let should = expected.after.slices();
     let mut slices = got.after.iter().zip(&should).zip(I::SLICES);
-    slices.find_map(|((is, should), lending)| {
+    let differs = slices.find_map(|((is, should), lending)| {
         let place = is.differ(should)?;
         Some(format!("{}{place}", lending.name))
-    })
+    });
+    let breach = || input.breach(got.answer, &got.out, &got.after);
+    differs.or_else(|| breach().map(String::from))
+}
+
+/// What the answer of a call breaks of what must hold of every answer.
+pub fn breach<I: Input>(port: &dyn Port, input: &I) -> Option<&'static str> {
+    let got = outcome(port, input);
+    input.breach(got.answer, &got.out, &got.after)
 }
 
 /// The answer of a call, and the first way in which it is not as it should be.
@@ -200,7 +214,7 @@ pub fn difference<I: Input>(
     expected: &Expected<I>,
 ) -> (i32, Option<String>) {
     let got = outcome(port, input);
-    (got.answer, differs(&got, expected))
+    (got.answer, differs(input, &got, expected))
 }
 
 /// A call that was found to differ.
@@ -231,7 +245,7 @@ impl Tally {
         if got.answer == 0 && I::RESULTS.contains(&got.out[0]) {
             *self.results.entry(got.out[0]).or_default() += 1;
         }
-        if let Some(what) = differs(&got, expected) {
+        if let Some(what) = differs(input, &got, expected) {
             self.note(input, what);
         }
         self.calls += 1;

@@ -6,6 +6,7 @@ use crate::calls::find_divisor::FindDivisor;
 use crate::calls::join_wires::JoinWires;
 use crate::calls::nearest_correction::NearestEnds;
 use crate::calls::sort_wires::SortWires;
+use crate::calls::split_wires::SplitWires;
 use crate::calls::Families;
 use crate::compare::Tally;
 use crate::port::{NearestCopy, Port, Unwrap, WireEnds};
@@ -74,7 +75,7 @@ const fn runner<I: Families>() -> Runner {
 }
 
 /// All calls, in the order in which they are run.
-pub const CALLS: [Runner; 9] = [
+pub const CALLS: [Runner; 10] = [
     runner::<Lent>(),
     runner::<Unwrap>(),
     runner::<NearestCopy>(),
@@ -84,6 +85,7 @@ pub const CALLS: [Runner; 9] = [
     runner::<FindDivisor>(),
     runner::<CutEdge>(),
     runner::<JoinWires>(),
+    runner::<SplitWires>(),
 ];
 
 /// Runs one group of one call.

@@ -171,6 +171,46 @@ pub fn join(
     Some(wires.iter().map(|wire| from_wire(wire)).collect())
 }
 
+/// What comes of a split: all edges, and the wires that are built.
+pub type Rebuilt = (Vec<records::Edge>, Vec<Vec<u32>>);
+
+/// Where the Rust panics in the walk of a split.
+#[derive(Clone, Copy, Debug, PartialEq, Eq)]
+pub enum Stuck {
+    /// No list is there on arrival.
+    DeadEnd,
+    /// A list of three or more, or of none.
+    Crowd,
+}
+
+/// The Rust's split of a face's wires by a list of vertices, of which there
+/// is an even count, with their points in the parameter plane.
+pub fn split_by_divisor(
+    edges: &[records::Edge],
+    [face, rebuilt]: [&[Vec<u32>]; 2],
+    list: &[(u32, [f64; 2])],
+    surface: u32,
+) -> Result<Rebuilt, Stuck> {
+    let [face, rebuilt] = [face, rebuilt].map(|wires| -> Vec<Wire> {
+        let wires = wires.iter();
+        wires.map(|wire| to_wire(wire)).collect()
+    });
+    let place = |&(vertex, uv): &(u32, [f64; 2])| (0.0, (vertex as usize, point2(uv)));
+    let on_divisor: Vec<_> = list.iter().map(place).collect();
+    let (surface, mut edges) = (Surface { number: surface }, to_edges(edges));
+    let walk =
+        || split_closed_faces::ways::split(&face, &rebuilt, &on_divisor, surface, &mut edges);
+    match quiet::caught(walk) {
+        Ok(wires) => {
+            let wires = wires.iter().map(|wire| from_wire(wire)).collect();
+            Ok((edges.iter().map(from_rust).collect(), wires))
+        }
+        Err(said) if said == "internal error: entered unreachable code" => Err(Stuck::DeadEnd),
+        Err(said) if said == "something wrong!" => Err(Stuck::Crowd),
+        Err(said) => panic!("the Rust panicked: {said}"),
+    }
+}
+
 /// A point of the parameter plane.
 fn point2([u, v]: [f64; 2]) -> Point2 {
     Point2::new(u, v)

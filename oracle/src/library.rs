@@ -1,7 +1,8 @@
 //! The archive that was found when this crate was built, called through C.
 //! Calls that it does not have yet are known when this crate is built.
 
-use crate::port::{Cut, Join, Nearest, NearestCopy, Pass, Port, Search, Sort, Unwrap, WireEnds};
+use crate::port::{Cut, Join, Nearest, NearestCopy, Pass, Port};
+use crate::port::{Search, Sort, Split, Unwrap, WireEnds};
 
 /// The archive.
 pub struct Library;
@@ -204,6 +205,29 @@ declare!(kaugrenna_connect_open_boundaries(
     uses_out: *mut usize
 ));
 
+#[cfg(library_has = "split_boundaries_by_divisor")]
+declare!(kaugrenna_split_boundaries_by_divisor(
+    edge_numbers: *mut u32,
+    edge_floats: *mut f64,
+    face_uses: *const u32,
+    face_lengths: *const u32,
+    rebuilt_uses: *const u32,
+    rebuilt_lengths: *const u32,
+    divisor: *const u32,
+    points: *const f64,
+    uses: *mut u32,
+    lengths: *mut u32;
+    vertices: usize,
+    edges: usize,
+    face_wires: usize,
+    rebuilt_wires: usize,
+    divisor_count: usize,
+    surface: u32,
+    wires_out: *mut usize,
+    uses_out: *mut usize,
+    edges_out: *mut usize
+));
+
 /// What a call says that the archive does not have.
 #[allow(dead_code)]
 fn missing(name: &str) -> i32 {
@@ -225,6 +249,7 @@ impl Port for Library {
             "find_non_simple_wire_divisor" => cfg!(library_has = "find_non_simple_wire_divisor"),
             "cut_edge_by_intersections" => cfg!(library_has = "cut_edge_by_intersections"),
             "connect_open_boundaries" => cfg!(library_has = "connect_open_boundaries"),
+            "split_boundaries_by_divisor" => cfg!(library_has = "split_boundaries_by_divisor"),
             _ => name == "split_closed_edges",
         }
     }
@@ -372,5 +397,38 @@ impl Port for Library {
     #[cfg(not(library_has = "connect_open_boundaries"))]
     fn connect_open_boundaries(&self, call: Join<'_>) -> i32 {
         missing("connect_open_boundaries")
+    }
+
+    #[cfg(library_has = "split_boundaries_by_divisor")]
+    fn split_boundaries_by_divisor(&self, call: Split<'_>) -> i32 {
+        let [wires_out, uses_out, edges_out] = call.out else {
+            panic!("three places for the counts");
+        };
+        ask!(kaugrenna_split_boundaries_by_divisor(
+            as_mut_ptr call.edge_numbers,
+            as_mut_ptr call.edge_floats,
+            as_ptr call.face.uses,
+            as_ptr call.face.lengths,
+            as_ptr call.rebuilt.uses,
+            as_ptr call.rebuilt.lengths,
+            as_ptr call.divisor,
+            as_ptr call.points,
+            as_mut_ptr call.uses,
+            as_mut_ptr call.lengths;
+            call.vertices,
+            call.edges,
+            call.face.wires,
+            call.rebuilt.wires,
+            call.divisor_count,
+            call.surface,
+            wires_out,
+            uses_out,
+            edges_out
+        ))
+    }
+
+    #[cfg(not(library_has = "split_boundaries_by_divisor"))]
+    fn split_boundaries_by_divisor(&self, call: Split<'_>) -> i32 {
+        missing("split_boundaries_by_divisor")
     }
 }

@@ -5,6 +5,7 @@ pub mod cut;
 pub mod join;
 pub mod near;
 pub mod search;
+pub mod split;
 
 use crate::shell::{Lent, Tables, EDGE_FLOATS, EDGE_NUMBERS, VERTEX_FLOATS, VERTEX_NUMBERS};
 

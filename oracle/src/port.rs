@@ -244,6 +244,53 @@ impl Join<'_> {
     }
 }
 
+/// What one call of `split_boundaries_by_divisor` is lent: the edge table,
+/// which grows, the face's wires, the wires to be rebuilt, the vertices on the
+/// divisor with two floats for each, and buffers for the answered wires. `out`
+/// has three places: wires, uses and edges.
+pub struct Split<'a> {
+    pub edge_numbers: &'a mut [u32],
+    pub edge_floats: &'a mut [u64],
+    pub face: Wires<'a>,
+    pub rebuilt: Wires<'a>,
+    pub divisor: &'a [u32],
+    pub points: &'a [u64],
+    pub uses: &'a mut [u32],
+    pub lengths: &'a mut [u32],
+    pub vertices: usize,
+    pub edges: usize,
+    pub divisor_count: usize,
+    pub surface: u32,
+    pub out: &'a mut [usize],
+}
+
+impl Split<'_> {
+    /// The same call, lent on for a while.
+    pub fn again(&mut self) -> Split<'_> {
+        Split {
+            edge_numbers: self.edge_numbers,
+            edge_floats: self.edge_floats,
+            uses: self.uses,
+            lengths: self.lengths,
+            out: self.out,
+            ..*self
+        }
+    }
+
+    /// The edge table, lent on to be read. The vertex table stays with the
+    /// host, so that its slices are empty here.
+    pub fn rows(&self) -> Rows<'_> {
+        Rows {
+            vertex_numbers: &[],
+            vertex_floats: &[],
+            edge_numbers: self.edge_numbers,
+            edge_floats: self.edge_floats,
+            vertices: self.vertices,
+            edges: self.edges,
+        }
+    }
+}
+
 /// An implementation that can be held against the Rust. Each call answers 0
 /// where its result is written, -1 for "none", else the refusal's number.
 pub trait Port {
@@ -261,4 +308,5 @@ pub trait Port {
     fn find_non_simple_wire_divisor(&self, call: Search<'_>) -> i32;
     fn cut_edge_by_intersections(&self, call: Cut<'_>) -> i32;
     fn connect_open_boundaries(&self, call: Join<'_>) -> i32;
+    fn split_boundaries_by_divisor(&self, call: Split<'_>) -> i32;
 }

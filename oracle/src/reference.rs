@@ -7,9 +7,11 @@ pub mod join;
 pub mod near;
 pub mod pass;
 pub mod search;
+pub mod split;
 pub mod tables;
 
-use crate::port::{Cut, Join, Nearest, NearestCopy, Pass, Port, Search, Sort, Unwrap, WireEnds};
+use crate::port::{Cut, Join, Nearest, NearestCopy, Pass, Port};
+use crate::port::{Search, Sort, Split, Unwrap, WireEnds};
 
 /// The steps of the calls, each of which can be replaced.
 #[derive(Clone, Copy, Default)]
@@ -20,6 +22,7 @@ pub struct Reference {
     pub search: search::Steps,
     pub cut: cut::Steps,
     pub join: join::Steps,
+    pub split: split::Steps,
 }
 
 impl Port for Reference {
@@ -57,5 +60,9 @@ impl Port for Reference {
 
     fn connect_open_boundaries(&self, call: Join<'_>) -> i32 {
         join::connect_open_boundaries(self, call)
+    }
+
+    fn split_boundaries_by_divisor(&self, call: Split<'_>) -> i32 {
+        split::split_boundaries_by_divisor(self, call)
     }
 }

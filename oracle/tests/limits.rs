@@ -6,6 +6,7 @@ use oracle::calls::find_divisor::FindDivisor;
 use oracle::calls::join_wires::JoinWires;
 use oracle::calls::nearest_correction::NearestEnds;
 use oracle::calls::sort_wires::SortWires;
+use oracle::calls::split_wires::SplitWires;
 use oracle::calls::Families;
 use oracle::compare::difference;
 use oracle::port::{NearestCopy, Unwrap, WireEnds};
@@ -141,5 +142,30 @@ fn join_wires() {
         "the last of 62 new wires",
         "63 new wires",
         "just enough room",
+    ]);
+}
+
+#[test]
+fn split_wires() {
+    hold::<SplitWires>(&[
+        "K10",
+        "K11",
+        "K12",
+        "K13",
+        "K14",
+        "K10 cell by cell",
+        "no uses, buffers of length 0",
+        "a loop used 65 times",
+        "two pairs and no uses",
+        "1024 uses and a list of one",
+        "1024 uses and a list of two",
+        "1023 uses and the list 0, 0, 1",
+        "odd and repeated",
+        "just enough room",
+        "4095 edges and a pair",
+        "4096 edges and a pair",
+        "twice in the face, not rebuilt twice",
+        "an edge in both directions",
+        "unused edge, t0 above t1",
     ]);
 }

@@ -4,12 +4,14 @@
 
 mod wrong;
 
+use oracle::calls::split_wires::SplitWires;
 use oracle::calls::Families;
+use oracle::compare::breach;
 use oracle::differ::{Group, Plan, Runner, CALLS};
 use oracle::port::Port;
 use oracle::reference::Reference;
 use oracle::shell::Lent;
-use wrong::{cut, join, lists, pass, Mutant};
+use wrong::{cut, join, lists, pass, split, Mutant};
 
 /// A run that is short enough for each mutant.
 const PLAN: Plan = Plan {
@@ -115,6 +117,32 @@ fn every_wrong_cut_is_found() {
 fn every_wrong_join_is_found() {
     let name = "connect_open_boundaries";
     all_found(name, &SHORT, lists(name));
+}
+
+#[test]
+fn every_wrong_split_is_found() {
+    let name = "split_boundaries_by_divisor";
+    all_found(name, &SHORT, lists(name));
+}
+
+#[test]
+fn the_small_group_finds_every_wrong_split() {
+    let name = "split_boundaries_by_divisor";
+    all_found(name, &[Group::Small], split::wrong_results());
+}
+
+/// What holds of every split finds these without any word of the Rust.
+#[test]
+fn demand_3_alone_finds_wrong_splits() {
+    for (what, port) in split::wrong_tallies() {
+        let mut found = None;
+        SplitWires::small(&mut |input| {
+            found = breach(port.as_ref(), input);
+            found.is_none()
+        });
+        println!("{what}: {found:?}");
+        assert!(found.is_some(), "{what} was not found");
+    }
 }
 
 #[test]

@@ -25,8 +25,9 @@ pub fn caught<T>(run: impl FnOnce() -> T) -> Result<T, String> {
     EXPECTED.set(true);
     let result = catch_unwind(AssertUnwindSafe(run));
     EXPECTED.set(false);
-    result.map_err(|said| match said.downcast::<String>() {
-        Ok(said) => *said,
-        Err(_) => "something else".into(),
+    result.map_err(|said| {
+        let fixed = said.downcast_ref::<&str>().map(ToString::to_string);
+        let made = || said.downcast_ref::<String>().cloned();
+        fixed.or_else(made).unwrap_or("something else".into())
     })
 }

@@ -1,6 +1,6 @@
 //! The causes that tables and wires meet, all of them in any order.
 
-use crate::port::{Join, Nearest, Rows, Wires};
+use crate::port::{Join, Nearest, Rows, Split, Wires};
 use crate::shell::{EDGE_FLOATS, EDGE_NUMBERS, VERTEX_FLOATS, VERTEX_NUMBERS};
 
 /// The steps of the checks.
@@ -12,6 +12,8 @@ pub struct Steps {
     pub nearest_causes: fn(&Nearest) -> Vec<i32>,
     /// All causes of a refusal among 1 to 5 that a join meets.
     pub join_causes: fn(&Join) -> Vec<i32>,
+    /// All causes of a refusal among 1 to 5 that a split meets.
+    pub split_causes: fn(&Split) -> Vec<i32>,
     /// Whether a vertex is pending that must not be, from the tables and the
     /// uses that are gone through.
     pub pending: fn(&Rows, &[u32]) -> bool,
@@ -25,6 +27,7 @@ impl Default for Steps {
             causes,
             nearest_causes,
             join_causes,
+            split_causes,
             pending,
             choose: |causes| causes.iter().min().copied(),
         }
@@ -111,6 +114,34 @@ pub fn join_causes(call: &Join) -> Vec<i32> {
     for uses in [first, second, &call.uses[..new]] {
         found.extend(use_causes(uses, rows.edges));
     }
+    found
+}
+
+/// All causes among 1 to 5 that a split meets. It has no vertex table, and
+/// the bounds hold for both sets of wires together.
+pub fn split_causes(call: &Split) -> Vec<i32> {
+    let rows = &call.rows();
+    let counted = rows.vertices <= 4096 && rows.edges <= 4096 && have_room(rows, 0, rows.edges);
+    let floats = call.divisor_count.checked_mul(2);
+    let (Some(face), Some(rebuilt), Some(list), Some(points), true) = (
+        use_count(&call.face),
+        use_count(&call.rebuilt),
+        call.divisor.get(..call.divisor_count),
+        floats.and_then(|floats| call.points.get(..floats)),
+        counted,
+    ) else {
+        return vec![1];
+    };
+    let mut found = edge_causes(rows);
+    let wires = call.face.wires + call.rebuilt.wires;
+    found.extend((wires > 64 || face + rebuilt > 1024).then_some(1));
+    let beyond = |&vertex: &u32| vertex as usize >= rows.vertices;
+    found.extend(list.iter().any(beyond).then_some(2));
+    for uses in [&call.face.uses[..face], &call.rebuilt.uses[..rebuilt]] {
+        found.extend(use_causes(uses, rows.edges));
+    }
+    let fits = |&bits: &u64| sized(f64::from_bits(bits));
+    found.extend((!points.iter().all(fits)).then_some(4));
     found
 }
 

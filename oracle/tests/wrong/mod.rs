@@ -6,8 +6,10 @@ pub mod join;
 pub mod near;
 pub mod pass;
 pub mod search;
+pub mod split;
 
-use oracle::port::{Cut, Join, Nearest, NearestCopy, Pass, Port, Search, Sort, Unwrap, WireEnds};
+use oracle::port::{Cut, Join, Nearest, NearestCopy, Pass, Port};
+use oracle::port::{Search, Sort, Split, Unwrap, WireEnds};
 use oracle::reference::Reference;
 use oracle::shell::Lent;
 
@@ -26,6 +28,7 @@ pub fn lists(call: &str) -> Vec<Vec<Mutant>> {
         "find_non_simple_wire_divisor" => search::lists_of_search(),
         "cut_edge_by_intersections" => cut::lists(),
         "connect_open_boundaries" => join::lists(),
+        "split_boundaries_by_divisor" => split::lists(),
         _ => panic!("no call of the name {call}"),
     }
 }
@@ -51,6 +54,37 @@ pub struct Behind {
     pub cut: fn(i32, &Lent, &mut Cut) -> i32,
     /// The uses and lengths of the new wires as they were come first.
     pub join: fn(i32, [&[u32]; 2], &mut Join) -> i32,
+    pub split: fn(i32, &Kept, &mut Split) -> i32,
+}
+
+/// What a split may write, as it was before.
+pub struct Kept {
+    pub edge_numbers: Vec<u32>,
+    pub edge_floats: Vec<u64>,
+    pub uses: Vec<u32>,
+    pub lengths: Vec<u32>,
+    pub out: Vec<usize>,
+}
+
+impl Kept {
+    fn of(call: &Split) -> Kept {
+        Kept {
+            edge_numbers: call.edge_numbers.to_vec(),
+            edge_floats: call.edge_floats.to_vec(),
+            uses: call.uses.to_vec(),
+            lengths: call.lengths.to_vec(),
+            out: call.out.to_vec(),
+        }
+    }
+
+    /// Puts everything back.
+    pub fn put_back(&self, call: &mut Split) {
+        call.edge_numbers.copy_from_slice(&self.edge_numbers);
+        call.edge_floats.copy_from_slice(&self.edge_floats);
+        call.uses.copy_from_slice(&self.uses);
+        call.lengths.copy_from_slice(&self.lengths);
+        call.out.copy_from_slice(&self.out);
+    }
 }
 
 /// A port that does something wrong after all else was right.
@@ -65,6 +99,7 @@ pub fn behind(name: &'static str, change: impl Fn(&mut Behind)) -> Mutant {
         search: |answer, _| answer,
         cut: |answer, _, _| answer,
         join: |answer, _, _| answer,
+        split: |answer, _, _| answer,
     };
     change(&mut behind);
     (name, Box::new(behind))
@@ -115,6 +150,10 @@ impl Port for Only<'_> {
 
     fn connect_open_boundaries(&self, call: Join<'_>) -> i32 {
         self.port.connect_open_boundaries(call)
+    }
+
+    fn split_boundaries_by_divisor(&self, call: Split<'_>) -> i32 {
+        self.port.split_boundaries_by_divisor(call)
     }
 }
 
@@ -181,5 +220,11 @@ impl Port for Behind {
         let (uses, lengths) = (call.uses.to_vec(), call.lengths.to_vec());
         let answer = right().connect_open_boundaries(call.again());
         (self.join)(answer, [&uses, &lengths], &mut call)
+    }
+
+    fn split_boundaries_by_divisor(&self, mut call: Split<'_>) -> i32 {
+        let before = Kept::of(&call);
+        let answer = right().split_boundaries_by_divisor(call.again());
+        (self.split)(answer, &before, &mut call)
     }
 }

@@ -84,3 +84,27 @@ pub fn joined<C>(
     assert!(found.is_some() || wires == before, "none changes nothing");
     found.map(|()| wires)
 }
+
+/// The wires that the split builds once the vertices on the divisor are known.
+/// These are the lines of `split_boundaries_by_divisor` from `duplicated_edges`
+/// on, without the line that finds the vertices, which needs the surface. Of
+/// an odd list the last vertex is a chunk of its own, and `create_new_edges`
+/// panics as it reads its second.
+pub fn split(
+    face: &[Wire],
+    rebuilt: &[Wire],
+    on_divisor: &[(f64, (usize, Point2))],
+    surface: Surface,
+    edges: &mut Vec<Edge<On<Point3>>>,
+) -> Vec<Wire> {
+    let mut marked = duplicated_edges(face.iter().flatten().map(|ei| ei.index));
+    let mut lines = vec![PolylineCurve(Vec::new()); edges.len()];
+    let new_edges = create_new_edges(on_divisor, &mut lines, &surface, 0.1);
+    let new_edges = new_edges.expect("a line on a surface is a seam");
+    let (new_edge_range, new_edge_indices) = signup_new_edges(edges, new_edges);
+    assert_eq!(lines.len(), edges.len(), "a polyline for each edge");
+    marked.extend(new_edge_range);
+    let edge_iter = rebuilt.iter().flatten().copied().chain(new_edge_indices);
+    let vemap = create_vemap(edges, edge_iter);
+    construct_boundaries(vemap, edges, &marked)
+}

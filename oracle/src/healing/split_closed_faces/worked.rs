@@ -46,17 +46,11 @@ fn search(notation: &str) -> Option<(usize, usize)> {
     find_non_simple_wire_divisor(&[wire(notation)], &edges(&[]), &vertices())
 }
 
-/// The split as the Rust does it once the vertices on the divisor are known.
+/// The split of a face that is rebuilt whole.
 fn split(face: &[Wire], list: &[usize], edges: &mut Vec<Edge<On<Point3>>>) -> Vec<Wire> {
     let place = |&v: &usize| (0.0, (v, Point2::new(v as f64, 0.5)));
     let on_divisor: Vec<_> = list.iter().map(place).collect();
-    let mut marked = duplicated_edges(face.iter().flatten().map(|edge_use| edge_use.index));
-    let surface = Surface { number: 3 };
-    let new = create_new_edges(&on_divisor, &mut Vec::new(), &surface, 0.1).unwrap();
-    let (range, new_uses) = signup_new_edges(edges, new);
-    marked.extend(range);
-    let vemap = create_vemap(edges, face.iter().flatten().copied().chain(new_uses));
-    construct_boundaries(vemap, edges, &marked)
+    ways::split(face, face, &on_divisor, Surface { number: 3 }, edges)
 }
 
 #[test]
@@ -122,6 +116,81 @@ fn k12_crowd() {
 fn k13_loops_at_one_vertex() {
     let wires = split(&[wire("0+ 1+ 2+")], &[], &mut all_edges(&[(0, 0); 3]));
     assert_eq!(wires, [wire("2+"), wire("1+"), wire("0+")]);
+}
+
+/// The list of K14: its one vertex makes a chunk without a second.
+#[test]
+#[should_panic(expected = "index out of bounds: the len is 1 but the index is 1")]
+fn k14_odd_list() {
+    split(&[], &[0], &mut all_edges(&[(0, 1)]));
+}
+
+/// A vertex twice on the divisor: the Rust makes a closed seam, and each of
+/// its two uses is a wire.
+#[test]
+fn a_vertex_twice_on_the_divisor() {
+    let mut edges = all_edges(&[]);
+    let wires = split(&[], &[0, 0], &mut edges);
+    assert_eq!(wires, [wire("0-"), wire("0+")]);
+    assert_eq!(edges[0].vertices, (0, 0));
+}
+
+/// A vertex in two pairs: its list has a use of either seam.
+#[test]
+fn a_vertex_in_two_pairs() {
+    let wires = split(&[], &[0, 1, 0, 2], &mut all_edges(&[]));
+    assert_eq!(wires, [wire("1+ 1-"), wire("0+ 0-")]);
+}
+
+/// A list of three: the first pair is made, and then the last vertex panics.
+#[test]
+#[should_panic(expected = "index out of bounds: the len is 1 but the index is 1")]
+fn a_list_of_three() {
+    split(&[], &[0, 1, 2], &mut all_edges(&[]));
+}
+
+/// The least crowd: one edge, and three uses of it at its second vertex.
+#[test]
+#[should_panic(expected = "something wrong")]
+fn the_least_crowd() {
+    split(&[wire("0+ 0- 0- 0-")], &[], &mut all_edges(&[(0, 1)]));
+}
+
+/// The new edges are appended before the walk and stay when it panics.
+#[test]
+fn a_dead_end_leaves_the_new_edges() {
+    let mut edges = all_edges(&[(0, 1)]);
+    let walk = || split(&[wire("0+")], &[2, 3], &mut edges);
+    let said = crate::healing::quiet::caught(walk).unwrap_err();
+    assert_eq!(said, "internal error: entered unreachable code");
+    assert_eq!((edges.len(), edges[1].vertices), (2, (2, 3)));
+}
+
+/// The split is not handed the vertices: any number is one.
+#[test]
+fn vertices_are_not_looked_at() {
+    let wires = split(&[wire("0+")], &[], &mut all_edges(&[(9, 9)]));
+    assert_eq!(wires, [wire("0+")]);
+}
+
+/// A use of an edge that is not there.
+#[test]
+#[should_panic(expected = "index out of bounds: the len is 1 but the index is 1")]
+fn a_use_of_no_edge() {
+    split(&[wire("1+")], &[], &mut all_edges(&[(0, 0)]));
+}
+
+/// The Rust has no bound on wires or uses out.
+#[test]
+fn more_uses_than_the_bound() {
+    let uses = wire(&"0+ ".repeat(1024));
+    let wires = split(&[uses], &[1, 2], &mut all_edges(&[(0, 0)]));
+    assert_eq!((wires.len(), wires.concat().len()), (1025, 1026));
+}
+
+#[test]
+fn no_uses_and_no_list() {
+    assert_eq!(split(&[], &[], &mut all_edges(&[])), [wire(""); 0]);
 }
 
 #[test]
