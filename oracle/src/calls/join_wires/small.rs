@@ -6,6 +6,8 @@
 //! vertices, four edge tables and four lists of new wires. Then every pair of
 //! open wires of up to three uses, each with six of the 384 choices of an edge
 //! table, of one of six lists of new wires and of the vertices, taken in turn.
+//! Where the variable `KAUGRENNA_WHOLE` is set, each of these pairs is shown
+//! with all 384 choices, 131,414,400 in all.
 //! The buffer for uses is just long enough in most cases, and longer or one
 //! cell too short in some, in turn as well.
 
@@ -45,7 +47,8 @@ const OPEN: [[&str; 2]; 6] = [
     ["1+ 1-", "0+ 0-"],
 ];
 
-/// How many choices are taken for each pair of longer open wires.
+/// How many choices are taken for each pair of longer open wires, where not
+/// all of them are asked for.
 const CHOICES: usize = 6;
 
 /// Shows every small input to the visitor, until it answers false.
@@ -124,11 +127,13 @@ impl Small<'_> {
     fn longer(&mut self) -> bool {
         let (wires, new) = (wires_of(3), self.new.clone());
         let choices = 16 * self.tables.len() * new.len();
+        let whole = std::env::var_os("KAUGRENNA_WHOLE").is_some();
+        let taken = if whole { choices } else { CHOICES };
         let mut code = 0;
         wires.iter().all(|first| {
             wires.iter().all(|second| {
                 code += 5;
-                (0..CHOICES).all(|_| {
+                (0..taken).all(|_| {
                     code = (code + 91) % choices;
                     let (table, list) = (code / 16 % 4, code / 64);
                     self.show(table, [first, second], &new[list], code % 16)
