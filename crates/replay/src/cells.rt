@@ -3,6 +3,7 @@ ghost use mathlib.Core.Path.{_≡_};
 ghost use Prim.Native.Nat.{_≤_};
 ghost use lib.ListN.{length};
 ghost use lib.Ieee.{binary64, nanBits};
+ghost use Rattle.replay.specs.Compared.{floatOf, hasPattern};
 use crate::words;
 use words::Length;
 use words::Place;
@@ -29,7 +30,9 @@ fn is_nan_pattern(bits: u64) -> bool
 }
 
 // The float of a bit pattern. Every pattern of a NaN gives a NaN of no particular sign or payload.
-fn float_of(bits: u64) -> f64 {
+fn float_of(bits: u64) -> f64
+    ensures { λ r. ⌜ r ≡ floatOf bits ⌝ }
+{
     if is_nan_pattern(bits) {
         return 0.0 / 0.0;
     }
@@ -47,7 +50,9 @@ pub fn next_float(buf: &mut [u8], p: Place) -> Real {
 }
 
 // Has x this bit pattern? A NaN has that of any NaN.
-fn has_pattern(x: f64, bits: u64) -> bool {
+fn has_pattern(x: f64, bits: u64) -> bool
+    ensures { λ r. ⌜ r ≡ hasPattern x bits ⌝ }
+{
     if x == x {
         return f64::to_bits(x) == bits;
     }

@@ -1,4 +1,6 @@
 // Reads the list from standard input, a word at a time.
+ghost use mathlib.Core.Path.{_≡_};
+ghost use mathlib.Core.Bool.{true, _&&_};
 ghost use Prim.Native.Nat.{_≤_};
 use libc::STDIN_FILENO;
 
@@ -35,7 +37,9 @@ pub struct Length {
 // ---- places
 
 // The place before anything is read.
-pub fn begin() -> Place {
+pub fn begin() -> Place
+    ensures { λ r. ⌜ r ≡ record { at = 0; left = 0; «is_whole» = true; «is_same» = true } ⌝ }
+{
     Place {
         at: 0,
         left: 0,
@@ -45,7 +49,9 @@ pub fn begin() -> Place {
 }
 
 // The same place, with nothing compared yet.
-pub fn at_record(p: Place) -> Place {
+pub fn at_record(p: Place) -> Place
+    ensures { λ r. ⌜ r ≡ record { at = p .at; left = p .left; «is_whole» = p .«is_whole»; «is_same» = true } ⌝ }
+{
     Place {
         at: p.at,
         left: p.left,
@@ -55,7 +61,9 @@ pub fn at_record(p: Place) -> Place {
 }
 
 // The same place, where the list is damaged unless a test holds.
-pub fn whole_if(p: Place, test: bool) -> Place {
+pub fn whole_if(p: Place, test: bool) -> Place
+    ensures { λ r. ⌜ r ≡ record { at = p .at; left = p .left; «is_whole» = p .«is_whole» && test; «is_same» = p .«is_same» } ⌝ }
+{
     Place {
         at: p.at,
         left: p.left,
@@ -70,7 +78,9 @@ pub fn damaged(p: Place) -> Place {
 }
 
 // The same place, where what was compared differs unless a test holds.
-pub fn same_if(p: Place, test: bool) -> Place {
+pub fn same_if(p: Place, test: bool) -> Place
+    ensures { λ r. ⌜ r ≡ record { at = p .at; left = p .left; «is_whole» = p .«is_whole»; «is_same» = p .«is_same» && test } ⌝ }
+{
     Place {
         at: p.at,
         left: p.left,

@@ -1,8 +1,10 @@
--- `replay::cells::float_of` is safe and ends: `from_bits` is reached by patterns of no NaN only. Assumes nothing.
+-- `replay::cells::float_of` meets its contract: `from_bits` is reached by patterns of no NaN only. Assumes nothing.
 use mathlib.Core.Path.{sym, subst, _∙_}
 use mathlib.Core.Bool.{Bool, not}
 use lib.Dec.{T}
+use lib.Ieee.{div, ofBits}
 use borrow.Author.Needs.{needs}
+use Rattle.replay.specs.Compared.{floatOf}
 use Rattle.replay.proofs.cells.float_of.Statement.{statement}
 use Rattle.replay.proofs.cells.float_of.Tie as tie
 
@@ -10,13 +12,19 @@ is-nan-pattern-requires : tie.Need-is-nan-pattern-requires
 is-nan-pattern-requires c κs = search needs
 
 returns : tie.Need-returns
-returns c = search needs
+unfolding floatOf div ofBits
+returns c =
+    let p = sym (c .before .is-nan-pattern .ensures) ∙ c .if1 .taken in
+    rw p
 
 float-from-bits-result : tie.Need-float-from-bits-result
 float-from-bits-result c = subst (λ (b : Bool). T (not b)) (sym (c .if1 .left) ∙ c .before .is-nan-pattern .ensures) tt
 
 returns-2 : tie.Need-returns-2
-returns-2 c = search needs
+unfolding floatOf
+returns-2 c =
+    let p = sym (c .before .is-nan-pattern .ensures) ∙ c .if1 .left in
+    rw p
 
 pub float-of-spec : {M : Type 1} → statement M
 float-of-spec =

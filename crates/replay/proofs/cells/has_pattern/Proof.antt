@@ -1,9 +1,10 @@
--- `replay::cells::has_pattern` is safe and ends: `to_bits` is reached by what equals itself, which is no NaN. Assumes nothing.
+-- `replay::cells::has_pattern` meets its contract: `to_bits` is reached by what equals itself, which is no NaN. Assumes nothing.
 use mathlib.Core.Path.{_≡_, sym, subst}
 use mathlib.Core.Bool.{true, not}
 use lib.Dec.{T}
 use lib.Ieee.{Float, nan, inf, fin, isNan, eq}
 use borrow.Author.Needs.{needs}
+use Rattle.replay.specs.Compared.{hasPattern}
 use Rattle.replay.proofs.cells.has_pattern.Statement.{statement}
 use Rattle.replay.proofs.cells.has_pattern.Tie as tie
 
@@ -18,13 +19,15 @@ float-to-bits-result : tie.Need-float-to-bits-result
 float-to-bits-result c = held _ (c .if1 .taken)
 
 returns : tie.Need-returns
-returns c = search needs
+unfolding hasPattern
+returns c = rw (c .if1 .taken)
 
 is-nan-pattern-requires : tie.Need-is-nan-pattern-requires
 is-nan-pattern-requires c κs = search needs
 
 returns-2 : tie.Need-returns-2
-returns-2 c = search needs
+unfolding hasPattern
+returns-2 c = rw (c .before .if1 .left) (c .is-nan-pattern .ensures)
 
 pub has-pattern-spec : {M : Type 1} → statement M
 has-pattern-spec =

@@ -1,0 +1,2 @@
+-- The definitions that the contracts of the comparison cite.
+pub mod Compared
