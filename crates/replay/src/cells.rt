@@ -3,7 +3,7 @@ ghost use mathlib.Core.Path.{_≡_};
 ghost use Prim.Native.Nat.{_≤_};
 ghost use lib.ListN.{length};
 ghost use lib.Ieee.{binary64, nanBits};
-ghost use Rattle.replay.specs.Compared.{floatOf, hasPattern};
+ghost use Rattle.replay.specs.Compared.{floatOf, hasPattern, Remembers};
 use crate::words;
 use words::Length;
 use words::Place;
@@ -40,7 +40,9 @@ fn float_of(bits: u64) -> f64
 }
 
 // Reads a float.
-pub fn next_float(buf: &mut [u8], p: Place) -> Real {
+pub fn next_float(buf: &mut [u8], p: Place) -> Real
+    ensures { λ r. ⌜ r .place .«is_same» ≡ p .«is_same» ⌝ }
+{
     let w = words::next(buf, p);
     let place = w.place;
     Real {
@@ -66,7 +68,9 @@ fn wide(n: u32) -> u64 {
 }
 
 // Reads a number of 32 bits. A word above those is taken as 0, and the list is damaged.
-pub fn next_number(buf: &mut [u8], p: Place) -> Number {
+pub fn next_number(buf: &mut [u8], p: Place) -> Number
+    ensures { λ r. ⌜ r .place .«is_same» ≡ p .«is_same» ⌝ }
+{
     let w = words::next(buf, p);
     let place = w.place;
     let n = w.bits;
@@ -85,7 +89,9 @@ pub fn next_number(buf: &mut [u8], p: Place) -> Number {
 // ---- buffers
 
 // Fills a buffer of numbers from the list.
-pub fn fill_numbers(buf: &mut [u8], p: Place, cells: &mut [u32]) -> Place {
+pub fn fill_numbers(buf: &mut [u8], p: Place, cells: &mut [u32]) -> Place
+    ensures { λ r. ⌜ r .«is_same» ≡ p .«is_same» ⌝ }
+{
     let mut place = p;
     let mut i = 0;
     while i < cells.len() {
@@ -98,7 +104,9 @@ pub fn fill_numbers(buf: &mut [u8], p: Place, cells: &mut [u32]) -> Place {
 }
 
 // Fills a buffer of floats from the list.
-pub fn fill_floats(buf: &mut [u8], p: Place, cells: &mut [f64]) -> Place {
+pub fn fill_floats(buf: &mut [u8], p: Place, cells: &mut [f64]) -> Place
+    ensures { λ r. ⌜ r .«is_same» ≡ p .«is_same» ⌝ }
+{
     let mut place = p;
     let mut i = 0;
     while i < cells.len() {
@@ -111,7 +119,9 @@ pub fn fill_floats(buf: &mut [u8], p: Place, cells: &mut [f64]) -> Place {
 }
 
 // Compares a buffer of numbers with the list.
-pub fn compare_numbers(buf: &mut [u8], p: Place, cells: &[u32]) -> Place {
+pub fn compare_numbers(buf: &mut [u8], p: Place, cells: &[u32]) -> Place
+    ensures { λ r. ⌜ Remembers p r ⌝ }
+{
     let mut place = p;
     let mut i = 0;
     while i < cells.len() {
@@ -122,13 +132,17 @@ pub fn compare_numbers(buf: &mut [u8], p: Place, cells: &[u32]) -> Place {
 }
 
 // Reads a word and compares a float with the one that has its bits.
-pub fn compare_float(buf: &mut [u8], p: Place, x: f64) -> Place {
+pub fn compare_float(buf: &mut [u8], p: Place, x: f64) -> Place
+    ensures { λ r. ⌜ Remembers p r ⌝ }
+{
     let w = words::next(buf, p);
     words::same_if(w.place, has_pattern(x, w.bits))
 }
 
 // Compares a buffer of floats with the list.
-pub fn compare_floats(buf: &mut [u8], p: Place, cells: &[f64]) -> Place {
+pub fn compare_floats(buf: &mut [u8], p: Place, cells: &[f64]) -> Place
+    ensures { λ r. ⌜ Remembers p r ⌝ }
+{
     let mut place = p;
     let mut i = 0;
     while i < cells.len() {
@@ -165,13 +179,17 @@ pub fn read_floats(buf: &mut [u8], p: Place, cells: &mut [f64]) -> Length
 // ---- a table of rows: its numbers, and then its floats
 
 // Fills the buffers of a table from the list.
-pub fn fill_table(buf: &mut [u8], p: Place, numbers: &mut [u32], floats: &mut [f64]) -> Place {
+pub fn fill_table(buf: &mut [u8], p: Place, numbers: &mut [u32], floats: &mut [f64]) -> Place
+    ensures { λ r. ⌜ r .«is_same» ≡ p .«is_same» ⌝ }
+{
     let past = fill_numbers(buf, p, numbers);
     fill_floats(buf, past, floats)
 }
 
 // Compares the buffers of a table with the list.
-pub fn compare_table(buf: &mut [u8], p: Place, numbers: &[u32], floats: &[f64]) -> Place {
+pub fn compare_table(buf: &mut [u8], p: Place, numbers: &[u32], floats: &[f64]) -> Place
+    ensures { λ r. ⌜ Remembers p r ⌝ }
+{
     let past = compare_numbers(buf, p, numbers);
     compare_floats(buf, past, floats)
 }

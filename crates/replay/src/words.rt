@@ -2,6 +2,7 @@
 ghost use mathlib.Core.Path.{_≡_};
 ghost use mathlib.Core.Bool.{true, _&&_};
 ghost use Prim.Native.Nat.{_≤_};
+ghost use Rattle.replay.specs.Compared.{Remembers};
 use libc::STDIN_FILENO;
 
 // How many bytes are read at once: as many as the buffer that is lent has.
@@ -73,13 +74,16 @@ pub fn whole_if(p: Place, test: bool) -> Place
 }
 
 // The same place in a list that is damaged.
-pub fn damaged(p: Place) -> Place {
+pub fn damaged(p: Place) -> Place
+    ensures { λ r. ⌜ r .«is_same» ≡ p .«is_same» ⌝ }
+{
     whole_if(p, false)
 }
 
 // The same place, where what was compared differs unless a test holds.
 pub fn same_if(p: Place, test: bool) -> Place
     ensures { λ r. ⌜ r ≡ record { at = p .at; left = p .left; «is_whole» = p .«is_whole»; «is_same» = p .«is_same» && test } ⌝ }
+    ensures { λ r. ⌜ Remembers p r ⌝ }
 {
     Place {
         at: p.at,
@@ -124,7 +128,9 @@ fn past(at: usize) -> usize {
 // ---- words
 
 // Reads the next piece where no word is left. Only at the end of the input is a piece shorter than the buffer.
-fn refilled(buf: &mut [u8], p: Place) -> Place {
+fn refilled(buf: &mut [u8], p: Place) -> Place
+    ensures { λ r. ⌜ r .«is_same» ≡ p .«is_same» ⌝ }
+{
     if p.left != 0 {
         return p;
     }
@@ -138,7 +144,9 @@ fn refilled(buf: &mut [u8], p: Place) -> Place {
 }
 
 // The next word. Past the end of the input it is 0, and the list is damaged.
-pub fn next(buf: &mut [u8], p: Place) -> Word {
+pub fn next(buf: &mut [u8], p: Place) -> Word
+    ensures { λ r. ⌜ r .place .«is_same» ≡ p .«is_same» ⌝ }
+{
     let q = refilled(buf, p);
     let at = q.at;
     let left = q.left;
@@ -180,7 +188,9 @@ pub fn next_length(buf: &mut [u8], p: Place) -> Length
 }
 
 // Reads a word and compares it.
-pub fn compare(buf: &mut [u8], p: Place, bits: u64) -> Place {
+pub fn compare(buf: &mut [u8], p: Place, bits: u64) -> Place
+    ensures { λ r. ⌜ Remembers p r ⌝ }
+{
     let w = next(buf, p);
     same_if(w.place, w.bits == bits)
 }

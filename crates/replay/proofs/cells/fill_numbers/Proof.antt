@@ -1,6 +1,6 @@
--- `replay::cells::fill_numbers` is safe and ends: the loop ends at the end of the cells, and no slice changes its length. Assumes nothing.
+-- `replay::cells::fill_numbers` meets its contract: the loop ends at the end of the cells, and what was compared before stays. Assumes nothing.
 use Prim.Native.Nat.{_≤_, _-_}
-use mathlib.Core.Path.{_≡_}
+use mathlib.Core.Path.{_≡_, refl, _∙_}
 use lib.ListN.{length, length-set}
 use native.Mathlib.Omega.{arith}
 use borrow.Author.Needs.{needs}
@@ -9,13 +9,13 @@ use Rattle.replay.proofs.cells.fill_numbers.Tie as tie
 
 abbrev Inv-loop : tie.InvT-loop
 Inv-loop buf₀ cells₀ place₀ i₀ buf cells place i =
-    (i ≤ length cells) × (length cells ≡ length cells₀) × (length buf ≡ length buf₀)
+    (i ≤ length cells) × (length cells ≡ length cells₀) × (length buf ≡ length buf₀) × (place .«is_same» ≡ place₀ .«is_same»)
 
 abbrev μ-loop : tie.MeasureT-loop
 μ-loop buf₀ cells₀ place₀ i₀ buf cells place i = length cells - i
 
 loop-holds : tie.Need-loop-holds Inv-loop μ-loop
-loop-holds c = search needs
+loop-holds c = (search needs, search needs, search needs, refl)
 
 next-number-requires : tie.Need-next-number-requires Inv-loop μ-loop
 next-number-requires c κs = search needs
@@ -33,7 +33,7 @@ loop-less : tie.Need-loop-less Inv-loop μ-loop
 loop-less c = simp length-set (omega arith)
 
 loop-again : tie.Need-loop-again Inv-loop μ-loop
-loop-again c = (simp length-set (omega arith), simp length-set (omega arith), search needs)
+loop-again c = (simp length-set (omega arith), simp length-set (omega arith), search needs, c .before .before .before .next-number .ensures ∙ c .before .before .before .before .before .before .loop .inv .3)
 
 same-length : tie.Need-same-length Inv-loop μ-loop
 same-length c = search needs
@@ -42,7 +42,7 @@ same-length-2 : tie.Need-same-length-2 Inv-loop μ-loop
 same-length-2 c = search needs
 
 returns : tie.Need-returns Inv-loop μ-loop
-returns c = search needs
+returns c = c .before .loop .inv .3
 
 pub fill-numbers-spec : {M : Type 1} → statement M
 fill-numbers-spec =
