@@ -1,0 +1,238 @@
+// A picture of the unrolled plate, as SVG: each contour in its own colour, an arrow and a number at each use.
+use crate::shell;
+use crate::steps;
+use crate::write;
+use compress::Uv;
+use libc::STDOUT_FILENO;
+use nearest::Period;
+use nearest::Unwrapped;
+use shell::Edges;
+use shell::Wires;
+
+// Pixels for each unit of length, beside the plate, and between an arrow and its edge.
+const UNIT: f64 = 100.0;
+
+const MARGIN: f64 = 60.0;
+
+const GAP: f64 = 14.0;
+
+// A use on the plate: its two ends.
+struct Line {
+    from: Uv,
+    to: Uv,
+}
+
+// ---- where a use lies
+
+fn point(u: f64, v: f64) -> Uv {
+    Uv { u, v }
+}
+
+fn between(from: Uv, to: Uv) -> Line {
+    Line { from, to }
+}
+
+// An edge forward. A rim's parameter is u, and curve 0 is the lower rim; a seam has its uv points.
+fn line_of_edge(numbers: &[u32], floats: &[f64], e: usize) -> Line {
+    if e >= 4096 {
+        return between(point(0.0, 0.0), point(0.0, 0.0));
+    }
+    let u0 = write::float_at(floats, 6 * e);
+    let v0 = write::float_at(floats, 6 * e + 1);
+    let u1 = write::float_at(floats, 6 * e + 2);
+    let v1 = write::float_at(floats, 6 * e + 3);
+    let t0 = write::float_at(floats, 6 * e + 4);
+    let t1 = write::float_at(floats, 6 * e + 5);
+    if write::at(numbers, 4 * e + 2) == 1 {
+        return between(point(u0, v0), point(u1, v1));
+    }
+    let height = if write::at(numbers, 4 * e + 3) == 0 {
+        0.0
+    } else {
+        shell::HEIGHT
+    };
+    between(point(t0, height), point(t1, height))
+}
+
+// A use, in its direction.
+fn line_of_use(numbers: &[u32], floats: &[f64], u: u32) -> Line {
+    let forward = line_of_edge(numbers, floats, (u / 2) as usize);
+    if u % 2 == 0 {
+        return forward;
+    }
+    between(forward.to, forward.from)
+}
+
+// The line moved round the pipe so that it begins as near to u0 as it can.
+fn unwrapped(l: Line, u0: f64) -> Line {
+    match nearest::get_mindiff(l.from.u, u0, Period::Every(shell::TURN)) {
+        Unwrapped::Number(u) => {
+            let step = u - l.from.u;
+            between(
+                point(l.from.u + step, l.from.v),
+                point(l.to.u + step, l.to.v),
+            )
+        }
+        Unwrapped::Refused(_) => l,
+    }
+}
+
+// ---- what is written
+
+// 1, 0 or -1.
+fn sign(x: f64) -> f64 {
+    if x > 1.0e-6 {
+        1.0
+    } else if x < -1.0e-6 {
+        -1.0
+    } else {
+        0.0
+    }
+}
+
+// A number of pixels.
+fn write_pixel(x: f64) {
+    write::number(STDOUT_FILENO, write::rounded(x));
+}
+
+// The place of a uv point in the picture: half a turn lies on either side of the start of the turn.
+fn x_of(p: Uv) -> f64 {
+    MARGIN + (p.u + shell::HALF_TURN) * UNIT
+}
+
+fn y_of(p: Uv) -> f64 {
+    MARGIN + (shell::HEIGHT - p.v) * UNIT
+}
+
+// A point of the picture, as 60,460.
+fn write_point(x: f64, y: f64) {
+    write_pixel(x);
+    write::text(STDOUT_FILENO, b",");
+    write_pixel(y);
+}
+
+fn write_colour(k: usize) {
+    match k % 4 {
+        0 => write::text(STDOUT_FILENO, b"#b03020"),
+        1 => write::text(STDOUT_FILENO, b"#1f5fa8"),
+        2 => write::text(STDOUT_FILENO, b"#2f7d32"),
+        _ => write::text(STDOUT_FILENO, b"#7a4aa0"),
+    }
+}
+
+// The shaft of an arrow from one place to another.
+fn write_shaft(k: usize, x0: f64, y0: f64, x1: f64, y1: f64) {
+    write::text(STDOUT_FILENO, b"<polyline points=\"");
+    write_point(x0, y0);
+    write::text(STDOUT_FILENO, b" ");
+    write_point(x1, y1);
+    write::text(STDOUT_FILENO, b"\" stroke-width=\"2\" stroke=\"");
+    write_colour(k);
+    write::text(STDOUT_FILENO, b"\"/>\n");
+}
+
+// The head of an arrow that ends at a place and goes along (dx, dy), which has the length 1.
+fn write_head(k: usize, x: f64, y: f64, dx: f64, dy: f64) {
+    write::text(STDOUT_FILENO, b"<polygon points=\"");
+    write_point(x, y);
+    write::text(STDOUT_FILENO, b" ");
+    write_point(x - 12.0 * dx - 5.0 * dy, y - 12.0 * dy + 5.0 * dx);
+    write::text(STDOUT_FILENO, b" ");
+    write_point(x - 12.0 * dx + 5.0 * dy, y - 12.0 * dy - 5.0 * dx);
+    write::text(STDOUT_FILENO, b"\" fill=\"");
+    write_colour(k);
+    write::text(STDOUT_FILENO, b"\"/>\n");
+}
+
+// The number of a use in its contour, and the use.
+fn write_label(k: usize, x: f64, y: f64, i: usize, u: u32) {
+    write::text(STDOUT_FILENO, b"<text x=\"");
+    write_pixel(x);
+    write::text(STDOUT_FILENO, b"\" y=\"");
+    write_pixel(y);
+    write::text(STDOUT_FILENO, b"\" fill=\"");
+    write_colour(k);
+    write::text(STDOUT_FILENO, b"\">");
+    write::count(STDOUT_FILENO, i);
+    write::text(STDOUT_FILENO, b": ");
+    write::edge_use(STDOUT_FILENO, u);
+    write::text(STDOUT_FILENO, b"</text>\n");
+}
+
+// A use of contour k, its number i: the arrow lies on the left of its edge, inside of the contour.
+fn write_arrow(k: usize, l: Line, i: usize, u: u32) {
+    let x0 = x_of(l.from);
+    let y0 = y_of(l.from);
+    let x1 = x_of(l.to);
+    let y1 = y_of(l.to);
+    let dx = sign(x1 - x0);
+    let dy = sign(y1 - y0);
+    let side_x = dy * GAP;
+    let side_y = -dx * GAP;
+    let end_x = x1 - dx * GAP + side_x;
+    let end_y = y1 - dy * GAP + side_y;
+    write_shaft(
+        k,
+        x0 + dx * GAP + side_x,
+        y0 + dy * GAP + side_y,
+        end_x,
+        end_y,
+    );
+    write_head(k, end_x, end_y, dx, dy);
+    let middle_x = (x0 + x1) / 2.0 + 2.7 * side_x;
+    let middle_y = (y0 + y1) / 2.0 + 2.7 * side_y;
+    write_label(k, middle_x, middle_y, i, u);
+}
+
+// Contour k: the first n uses, each beginning where the one before it ends.
+fn write_contour(k: usize, numbers: &[u32], floats: &[f64], uses: &[u32], n: usize) {
+    let mut at = 0.0f64;
+    let mut i: usize = 0;
+    while i < n {
+        let u = write::at(uses, i);
+        let l = unwrapped(line_of_use(numbers, floats, u), at);
+        write_arrow(k, l, i + 1, u);
+        at = l.to.u;
+        i += 1;
+    }
+}
+
+// What stands before the contours: the size of the picture, and the plate.
+fn write_beginning() {
+    write::text(
+        STDOUT_FILENO,
+        b"<svg xmlns=\"http://www.w3.org/2000/svg\" width=\"748\" height=\"520\" viewBox=\"0 0 748 520\" ",
+    );
+    write::text(
+        STDOUT_FILENO,
+        b"font-family=\"sans-serif\" font-size=\"14\" text-anchor=\"middle\" dominant-baseline=\"middle\">\n",
+    );
+    write::text(
+        STDOUT_FILENO,
+        b"<title>Burner pipe, unrolled: the contours that the torch follows</title>\n",
+    );
+    write::text(
+        STDOUT_FILENO,
+        b"<rect x=\"60\" y=\"60\" width=\"628\" height=\"400\" fill=\"#f3f3f3\" stroke=\"#888888\"/>\n",
+    );
+}
+
+// The picture of the contours.
+pub fn write_plate(edges: Edges, wires: Wires) {
+    let numbers = edges.numbers;
+    let floats = edges.floats;
+    let uses = wires.uses;
+    let lengths = wires.lengths;
+    let count = wires.count;
+    write_beginning();
+    let mut from: usize = 0;
+    let mut k: usize = 0;
+    while k < count {
+        let n = write::length_at(&lengths, k);
+        let contour = steps::uses_from(&uses, from);
+        write_contour(k, &numbers, &floats, &contour, n);
+        from = write::plus(from, n);
+        k += 1;
+    }
+    write::text(STDOUT_FILENO, b"</svg>\n");
+}
