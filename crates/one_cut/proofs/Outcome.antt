@@ -64,9 +64,11 @@ take-replicate a (suc n) zero h = absurd (none h)
     none g = omega arith
 take-replicate {A} a (suc n) (suc k) h = ap (λ (l : List A). a ∷ l) (take-replicate a n k (omega arith))
 
-pub marked : (n i m : ℕ) → i < n → n ≤ 4096 → take n (set (replicate 4096 0) i m) ≡ addedAt n i m
+-- the front of a table of zeros with one entry set
+pub marked : (l : List ℕ) (n i m : ℕ) → l ≡ replicate (length l) 0 → i < n → n ≤ length l → take n (set l i m) ≡ addedAt n i m
 unfolding addedAt
-marked n i m lt h = take-set-lt n (replicate 4096 0) i m lt ∙ ap (λ (l : List ℕ). set l i m) (take-replicate 0 n 4096 h)
+marked l n i m z lt h =
+    take-set-lt n l i m lt ∙ ap (λ (t : List ℕ). set t i m) (ap (take n) z ∙ take-replicate 0 n (length l) h)
 
 pub length-added : (n i m : ℕ) → length (addedAt n i m) ≡ n
 unfolding addedAt
@@ -97,7 +99,7 @@ module _ (vn : List ℕ) (vf : List Float) (en : List ℕ) (ef : List Float) (us
 
   -- the wires can be mended
   pub replaceable : inputCause (lentOf vn vf en ef us ls v e w) ≡ 0 → (added out ol : List ℕ) → added ≡ addedAt e i e
-      → 2048 ≤ length out → 64 ≤ length ol → Replaceable us ls w added out ol
+      → total (take w ls) * 2 ≤ length out → 64 ≤ length ol → Replaceable us ls w added out ol
   replaceable z added out ol q ho hl =
       let A = accepted vn vf en ef us ls v e w z in
       replaceable-by vn vf en ef us ls v e w A added out ol (rw q (length-added e i e)) (λ k. rw q (added-small e i e k (A .edges .below))) ho hl

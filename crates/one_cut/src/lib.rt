@@ -3,9 +3,10 @@
 ghost use mathlib.Core.Path.{_≡_};
 ghost use lib.Ieee.{nan};
 ghost use Prim.Native.Nat.{_+_, _*_, _≤_, _<_};
-ghost use lib.ListN.{length, getD, set};
+ghost use lib.ListN.{length, getD, set, take, replicate};
 ghost use Rattle.compress.specs.declared.Vertex.the-variants.{Given};
 ghost use Rattle.compress.specs.Layout.{put};
+ghost use Rattle.compress.specs.Wires.{total};
 ghost use Rattle.compress.specs.Rows.{edgeAt, edgeNumbers, edgeFloats, vertexNumbers, vertexFloats};
 ghost use Rattle.checks.specs.Causes.{lowestOf};
 ghost use Rattle.split_closed_edges.specs.Cut.{halvesOf};
@@ -161,7 +162,59 @@ fn mark_cut(added: &mut [u32], i: usize, m: usize)
     added[i] = m as u32;
 }
 
-// One cut of a shell that has none of the causes 1 to 5. Everything is worked out before anything lent is written.
+// One cut of a shell that has none of the causes 1 to 5, with room for the map, which holds zeros, and for the mended wires. Everything is
+// worked out before anything lent is written.
+fn cut_within(
+    vertex_numbers: &mut [u32],
+    vertex_floats: &mut [f64],
+    edge_numbers: &mut [u32],
+    edge_floats: &mut [f64],
+    uses: &mut [u32],
+    lengths: &mut [u32],
+    vertices: usize,
+    edges: usize,
+    wires: usize,
+    i: usize,
+    c: Cut,
+    added: &mut [u32],
+    out: &mut [u32],
+    out_lengths: &mut [u32],
+) -> Split
+    requires { ⌜ (inputCause (lentOf (now «vertex_numbers») (now «vertex_floats») (now «edge_numbers») (now «edge_floats») (now uses) (now lengths) vertices edges wires) ≡ 0) × (i < edges) ⌝ }
+    requires { ⌜ (now added ≡ replicate (length (now added)) 0) × (edges ≤ length (now added)) × (total (take wires (now lengths)) * 2 ≤ length (now out)) × (64 ≤ length (now «out_lengths»)) ⌝ }
+    ensures { λ r. ⌜ leaves r (now («vertex_numbers» .exit)) (now («vertex_floats» .exit)) (now («edge_numbers» .exit)) (now («edge_floats» .exit)) (now (uses .exit)) (now (lengths .exit)) ≡ onceOutcome (lentOf (now («vertex_numbers» .entry)) (now («vertex_floats» .entry)) (now («edge_numbers» .entry)) (now («edge_floats» .entry)) (now (uses .entry)) (now (lengths .entry)) vertices edges wires) i c ⌝ }
+{
+    mark_cut(added, i, edges);
+    let n = split_closed_edges::replace_wires(
+        uses,
+        lengths,
+        wires,
+        &added[..edges],
+        out,
+        out_lengths,
+    );
+    let a = compress::vertices_fit(vertex_numbers, vertex_floats, vertices + 1);
+    let b = compress::edges_fit(edge_numbers, edge_floats, edges + 1);
+    let room = compress::uses_fit(uses, n);
+    if a & b & room {
+        put_cut(
+            vertex_numbers,
+            vertex_floats,
+            edge_numbers,
+            edge_floats,
+            i,
+            vertices,
+            edges,
+            c,
+        );
+        compress::copy(out, n, uses);
+        compress::copy(out_lengths, wires, lengths);
+        return split_closed_edges::answer(true, vertices + 1, edges + 1, n);
+    }
+    split_closed_edges::answer(false, vertices, edges, n)
+}
+
+// One cut of a shell that has none of the causes 1 to 5. A small shell has small arrays, since to zero them takes time.
 fn cut_checked(
     vertex_numbers: &mut [u32],
     vertex_floats: &mut [f64],
@@ -178,37 +231,46 @@ fn cut_checked(
     requires { ⌜ (inputCause (lentOf (now «vertex_numbers») (now «vertex_floats») (now «edge_numbers») (now «edge_floats») (now uses) (now lengths) vertices edges wires) ≡ 0) × (i < edges) ⌝ }
     ensures { λ r. ⌜ leaves r (now («vertex_numbers» .exit)) (now («vertex_floats» .exit)) (now («edge_numbers» .exit)) (now («edge_floats» .exit)) (now (uses .exit)) (now (lengths .exit)) ≡ onceOutcome (lentOf (now («vertex_numbers» .entry)) (now («vertex_floats» .entry)) (now («edge_numbers» .entry)) (now («edge_floats» .entry)) (now (uses .entry)) (now (lengths .entry)) vertices edges wires) i c ⌝ }
 {
-    let mut added = [0u32; 4096];
-    let mut out = [0u32; 2048];
+    let count = checks::total_uses(lengths, wires);
     let mut out_lengths = [0u32; 64];
-    mark_cut(&mut added, i, edges);
-    let n = split_closed_edges::replace_wires(
-        uses,
-        lengths,
-        wires,
-        &added[..edges],
-        &mut out,
-        &mut out_lengths,
-    );
-    let a = compress::vertices_fit(vertex_numbers, vertex_floats, vertices + 1);
-    let b = compress::edges_fit(edge_numbers, edge_floats, edges + 1);
-    let room = compress::uses_fit(uses, n);
-    if a & b & room {
-        put_cut(
+    if split_closed_edges::is_small(edges, count) {
+        let mut added = [0u32; 64];
+        let mut out = [0u32; 128];
+        return cut_within(
             vertex_numbers,
             vertex_floats,
             edge_numbers,
             edge_floats,
-            i,
+            uses,
+            lengths,
             vertices,
             edges,
+            wires,
+            i,
             c,
+            &mut added,
+            &mut out,
+            &mut out_lengths,
         );
-        compress::copy(&out, n, uses);
-        compress::copy(&out_lengths, wires, lengths);
-        return split_closed_edges::answer(true, vertices + 1, edges + 1, n);
     }
-    split_closed_edges::answer(false, vertices, edges, n)
+    let mut added = [0u32; 4096];
+    let mut out = [0u32; 2048];
+    cut_within(
+        vertex_numbers,
+        vertex_floats,
+        edge_numbers,
+        edge_floats,
+        uses,
+        lengths,
+        vertices,
+        edges,
+        wires,
+        i,
+        c,
+        &mut added,
+        &mut out,
+        &mut out_lengths,
+    )
 }
 
 // `cut_edge_by_intersections` with `insert_new_edges`: no cut changes nothing, one cuts the edge and mends every wire, in place, and two or

@@ -3,10 +3,11 @@
 use mathlib.Core.Path.{_≡_, refl, ap, sym, _∙_}
 use mathlib.Core.Bool.{Bool, true, false, _&&_}
 use mathlib.Core.List.{List, [], _∷_, _++_}
-use Prim.Native.Nat.{ℕ, zero, suc, _+_, _≤_, _<_}
+use Prim.Native.Nat.{ℕ, zero, suc, _+_, _*_, _≤_, _<_}
 use native.Mathlib.Omega.{arith}
+use native.Mathlib.Decide.{decLe}
 use lib.ListN.{length, getD, take, drop, length-append}
-use lib.Seq.{length-take-le}
+use lib.Seq.{length-take-le, take-all}
 use lib.Ieee.{Float}
 use Rattle.compress.specs.declared.Edge.{Edge}
 use Rattle.compress.specs.declared.Vertex.{Vertex}
@@ -16,7 +17,7 @@ use Rattle.compress.specs.Refusals.{refusalOf}
 use Rattle.compress.specs.Rows.{edgeAt, vertexAt, vertexNumbers, vertexFloats}
 use Rattle.compress.specs.Said.{result, refused}
 use Rattle.compress.specs.Shell.{Shell, Slices, load, storeShell, countsOf, verticesFit, edgesFit, usesFit, hasRoom}
-use Rattle.compress.specs.Wires.{wiresOf, usesOf, lengthsOf, over}
+use Rattle.compress.specs.Wires.{total, wiresOf, usesOf, lengthsOf, over}
 use Rattle.compress.proofs.Layouts.{length-rows, store-append, store-same}
 use Rattle.compress.proofs.Rows.{vertex-numbers-stand, vertex-floats-stand}
 use Rattle.compress.proofs.Room.{both, vertices-room, edges-room}
@@ -85,6 +86,14 @@ length-added [] m = refl
 length-added (e ∷ es) m = ap suc (length-added es (next (closed e) m))
 
 -- ---- the three ways out of the definition
+-- mended wires lie within the slice that they were written to
+pub mended-within : (ws : List (List ℕ)) (n : ℕ) (out ol : List ℕ) → Mended ws out ol n → n ≤ length out
+mended-within ws n out ol M = by (decLe n (length out))
+  where
+    by : Dec (n ≤ length out) → n ≤ length out
+    by (yes h) = h
+    by (no h) = omega (arith, h, M .count, ap length (sym (take-all n out (omega (arith, h))) ∙ M .uses))
+
 module _ (k : ℕ) (s : Slices) (r : Shell) where
   pub way-done : k ≡ 0 → hasRoom s (countsOf r) ≡ true → causeOr k s (resultOf s r) ≡ record { said = result (countsOf r); slices = storeShell s r }
   way-done p q = rw (p, q)
@@ -137,7 +146,7 @@ module _ (vn : List ℕ) (vf : List Float) (en : List ℕ) (ef : List Float) (us
 
   -- the wires can be mended by a map that has a small number for each edge
   pub replaceable-by : Accepted → (added out ol : List ℕ) → length added ≡ e → ((k : ℕ) → getD added k 0 < 2147483648)
-      → 2048 ≤ length out → 64 ≤ length ol → Replaceable us ls w added out ol
+      → total (take w ls) * 2 ≤ length out → 64 ≤ length ol → Replaceable us ls w added out ol
   replaceable-by A added out ol n small ho hl =
       record {
         wires-le = A .wires .lengths;
@@ -145,7 +154,7 @@ module _ (vn : List ℕ) (vf : List Float) (en : List ℕ) (ef : List Float) (us
         lent = A .wires .uses;
         edges = λ k h. rw n (A .wires .edges k h);
         small = small;
-        room = omega (arith, A .wires .few);
+        room = ho;
         places = omega (arith, A .wires .below);
       }
 
@@ -176,7 +185,7 @@ module _ (vn : List ℕ) (vf : List Float) (en : List ℕ) (ef : List Float) (us
 
   -- the wires can be mended
   pub replaceable : inputCause (lentOf vn vf en ef us ls v e w) ≡ 0 → (added : List ℕ) (cuts : ℕ) (out ol : List ℕ) → Marked edgesIn added cuts
-      → 2048 ≤ length out → 64 ≤ length ol → Replaceable us ls w (take e added) out ol
+      → total (take w ls) * 2 ≤ length out → 64 ≤ length ol → Replaceable us ls w (take e added) out ol
   replaceable z added cuts out ol m ho hl =
       let A = accepted z in
       let q = marked-map added cuts m in

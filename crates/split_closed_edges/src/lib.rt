@@ -9,7 +9,7 @@ ghost use lib.Seq.{sets};
 ghost use Rattle.compress.specs.Records.{closed, pick};
 ghost use Rattle.compress.specs.Layout.{rows};
 ghost use Rattle.compress.specs.Rows.{edgeAt, edgeNumbers, edgeFloats, vertexNumbers, vertexFloats};
-ghost use Rattle.compress.specs.Wires.{wiresOf};
+ghost use Rattle.compress.specs.Wires.{wiresOf, total};
 ghost use Rattle.split_closed_edges.specs.Cut.{Middle, upTo, fromOn, halvesOf, pendingOf};
 ghost use Rattle.split_closed_edges.specs.Pass.{next, replaceUse, replaceEdges, replaceWires};
 ghost use Rattle.split_closed_edges.specs.Steps.{cutRows, pendingRow, PlaceFor, Addable, Added, Marked, Replaceable, Mended};
@@ -373,7 +373,58 @@ pub fn answer(room: bool, vertices: usize, edges: usize, uses: usize) -> Split
     }
 }
 
-// The pass over a shell that has none of the causes 1 to 5. Everything is worked out before anything lent is written.
+// The pass over a shell that has none of the causes 1 to 5, with room for its map and for the mended wires. Everything is worked out before
+// anything lent is written.
+fn split_within(
+    vertex_numbers: &mut [u32],
+    vertex_floats: &mut [f64],
+    edge_numbers: &mut [u32],
+    edge_floats: &mut [f64],
+    uses: &mut [u32],
+    lengths: &mut [u32],
+    vertices: usize,
+    edges: usize,
+    wires: usize,
+    added: &mut [u32],
+    out: &mut [u32],
+    out_lengths: &mut [u32],
+) -> Split
+    requires { ⌜ inputCause (lentOf (now «vertex_numbers») (now «vertex_floats») (now «edge_numbers») (now «edge_floats») (now uses) (now lengths) vertices edges wires) ≡ 0 ⌝ }
+    requires { ⌜ (edges ≤ length (now added)) × (total (take wires (now lengths)) * 2 ≤ length (now out)) × (64 ≤ length (now «out_lengths»)) ⌝ }
+    ensures { λ r. ⌜ leaves r (now («vertex_numbers» .exit)) (now («vertex_floats» .exit)) (now («edge_numbers» .exit)) (now («edge_floats» .exit)) (now (uses .exit)) (now (lengths .exit)) ≡ outcomeOf (lentOf (now («vertex_numbers» .entry)) (now («vertex_floats» .entry)) (now («edge_numbers» .entry)) (now («edge_floats» .entry)) (now (uses .entry)) (now (lengths .entry)) vertices edges wires) ⌝ }
+{
+    let cuts = mark_closed(edge_numbers, edges, added);
+    let n = replace_wires(uses, lengths, wires, &added[..edges], out, out_lengths);
+    let a = compress::vertices_fit(vertex_numbers, vertex_floats, vertices + cuts);
+    let b = compress::edges_fit(edge_numbers, edge_floats, edges + cuts);
+    let c = compress::uses_fit(uses, n);
+    if a & b & c {
+        add_edges(
+            vertex_numbers,
+            vertex_floats,
+            edge_numbers,
+            edge_floats,
+            vertices,
+            edges,
+        );
+        compress::copy(out, n, uses);
+        compress::copy(out_lengths, wires, lengths);
+        return answer(true, vertices + cuts, edges + cuts, n);
+    }
+    answer(false, vertices, edges, n)
+}
+
+// Whether small arrays have room for a shell with so many edges and uses.
+pub fn is_small(edges: usize, uses: usize) -> bool
+    ensures { λ r. ⌜ (r ≡ true → (edges ≤ 64) × (uses ≤ 64)) ⌝ }
+{
+    if edges > 64 {
+        return false;
+    }
+    uses <= 64
+}
+
+// The pass over a shell that has none of the causes 1 to 5. A small shell has small arrays, since to zero them takes time.
 fn split_checked(
     vertex_numbers: &mut [u32],
     vertex_floats: &mut [f64],
@@ -388,35 +439,42 @@ fn split_checked(
     requires { ⌜ inputCause (lentOf (now «vertex_numbers») (now «vertex_floats») (now «edge_numbers») (now «edge_floats») (now uses) (now lengths) vertices edges wires) ≡ 0 ⌝ }
     ensures { λ r. ⌜ leaves r (now («vertex_numbers» .exit)) (now («vertex_floats» .exit)) (now («edge_numbers» .exit)) (now («edge_floats» .exit)) (now (uses .exit)) (now (lengths .exit)) ≡ outcomeOf (lentOf (now («vertex_numbers» .entry)) (now («vertex_floats» .entry)) (now («edge_numbers» .entry)) (now («edge_floats» .entry)) (now (uses .entry)) (now (lengths .entry)) vertices edges wires) ⌝ }
 {
-    let mut added = [0u32; 4096];
-    let mut out = [0u32; 2048];
+    let count = checks::total_uses(lengths, wires);
     let mut out_lengths = [0u32; 64];
-    let cuts = mark_closed(edge_numbers, edges, &mut added);
-    let n = replace_wires(
-        uses,
-        lengths,
-        wires,
-        &added[..edges],
-        &mut out,
-        &mut out_lengths,
-    );
-    let a = compress::vertices_fit(vertex_numbers, vertex_floats, vertices + cuts);
-    let b = compress::edges_fit(edge_numbers, edge_floats, edges + cuts);
-    let c = compress::uses_fit(uses, n);
-    if a & b & c {
-        add_edges(
+    if is_small(edges, count) {
+        let mut added = [0u32; 64];
+        let mut out = [0u32; 128];
+        return split_within(
             vertex_numbers,
             vertex_floats,
             edge_numbers,
             edge_floats,
+            uses,
+            lengths,
             vertices,
             edges,
+            wires,
+            &mut added,
+            &mut out,
+            &mut out_lengths,
         );
-        compress::copy(&out, n, uses);
-        compress::copy(&out_lengths, wires, lengths);
-        return answer(true, vertices + cuts, edges + cuts, n);
     }
-    answer(false, vertices, edges, n)
+    let mut added = [0u32; 4096];
+    let mut out = [0u32; 2048];
+    split_within(
+        vertex_numbers,
+        vertex_floats,
+        edge_numbers,
+        edge_floats,
+        uses,
+        lengths,
+        vertices,
+        edges,
+        wires,
+        &mut added,
+        &mut out,
+        &mut out_lengths,
+    )
 }
 
 // `split_closed_edges`: every closed edge of the lent tables is cut, and every wire mended, in place.

@@ -1,101 +1,33 @@
--- `one_cut::cut_checked` meets its contract. Assumes nothing.
+-- `one_cut::cut_checked` meets its contract: the arrays have room for a shell of either size. Assumes nothing.
+use mathlib.Core.Path.{refl}
 use native.Mathlib.Omega.{arith}
-use mathlib.Core.Path.{sym}
-use lib.Seq.{length-take-le}
-use Rattle.split_closed_edges.proofs.Outcome.{accepted}
-use Rattle.one_cut.proofs.Outcome.{marked, replaceable, worked, roomy, places, outcome-full, outcome-done}
 use borrow.Author.Needs.{needs}
+use Rattle.split_closed_edges.proofs.Outcome.{accepted}
 use Rattle.one_cut.proofs.cut_checked.Statement.{statement}
 use Rattle.one_cut.proofs.cut_checked.Tie as tie
 
-slice-aggregate-mark-cut : tie.Need-slice-aggregate-mark-cut
-slice-aggregate-mark-cut c = search needs
-
-mark-cut-requires : tie.Need-mark-cut-requires
-mark-cut-requires c κs =
+total-uses-requires : tie.Need-total-uses-requires
+total-uses-requires c κs =
     let A = accepted _ _ _ _ _ _ _ _ _ (c .before .before .before .before .before .before .before .pre .0) in
-    (omega (arith, A .edges .below, c .before .before .before .before .before .before .before .pre .1), omega (arith, A .vertices .below, A .edges .below, A .wires .below))
+    (A .wires .below, A .wires .lengths)
 
-array-share-prefix-added : tie.Need-array-share-prefix-added
-array-share-prefix-added c =
-    let A = accepted _ _ _ _ _ _ _ _ _ (c .before .before .before .before .before .before .before .before .before .before .before .pre .0) in
-    omega (arith, A .edges .below, c .before .before .before .mark-cut .kept)
+is-small-requires : tie.Need-is-small-requires
+is-small-requires c κs = search needs
 
-slice-aggregate-replace-wires : tie.Need-slice-aggregate-replace-wires
-slice-aggregate-replace-wires c =
-    let A = accepted _ _ _ _ _ _ _ _ _ (c .before .before .before .before .before .before .before .before .before .before .before .before .pre .0) in
-    sym (length-take-le _ _ (omega (arith, A .edges .below, c .before .before .before .before .mark-cut .kept)))
+slice-aggregate-cut-within : tie.Need-slice-aggregate-cut-within
+slice-aggregate-cut-within c = search needs
 
-slice-aggregate-replace-wires-2 : tie.Need-slice-aggregate-replace-wires-2
-slice-aggregate-replace-wires-2 c = search needs
+slice-aggregate-cut-within-2 : tie.Need-slice-aggregate-cut-within-2
+slice-aggregate-cut-within-2 c = search needs
 
-slice-aggregate-replace-wires-3 : tie.Need-slice-aggregate-replace-wires-3
-slice-aggregate-replace-wires-3 c = search needs
+slice-aggregate-cut-within-3 : tie.Need-slice-aggregate-cut-within-3
+slice-aggregate-cut-within-3 c = search needs
 
-replace-wires-requires : tie.Need-replace-wires-requires
-replace-wires-requires c κs =
-    let a = c .before .before .before .before .before .before .before .before .before .before .before .before .before .before .args in
-    let A = accepted _ _ _ _ _ _ _ _ _ (c .before .before .before .before .before .before .before .before .before .before .before .before .before .before .pre .0) in
-    replaceable _ _ _ _ _ _ _ _ _ (a .i) (a .c) (c .before .before .before .before .before .before .before .before .before .before .before .before .before .before .pre .0) _ _ _ (rw (c .before .before .before .before .before .before .mark-cut .ensures) (marked (a .edges) (a .i) (a .edges) (c .before .before .before .before .before .before .before .before .before .before .before .before .before .before .pre .1) (A .edges .below))) (omega arith) (omega arith)
-
-add-vertices-fit : tie.Need-add-vertices-fit
-add-vertices-fit c =
+cut-within-requires : tie.Need-cut-within-requires
+cut-within-requires c κs =
     let A = accepted _ _ _ _ _ _ _ _ _ (c .before .before .before .before .before .before .before .before .before .before .before .before .before .before .before .before .before .before .before .pre .0) in
-    omega (arith, A .vertices .below)
-
-vertices-fit-requires : tie.Need-vertices-fit-requires
-vertices-fit-requires c κs = search needs
-
-add-edges-fit : tie.Need-add-edges-fit
-add-edges-fit c =
-    let A = accepted _ _ _ _ _ _ _ _ _ (c .before .before .before .before .before .before .before .before .before .before .before .before .before .before .before .before .before .before .before .before .before .before .pre .0) in
-    omega (arith, A .edges .below)
-
-edges-fit-requires : tie.Need-edges-fit-requires
-edges-fit-requires c κs = search needs
-
-uses-fit-requires : tie.Need-uses-fit-requires
-uses-fit-requires c κs = search needs
-
-put-cut-requires : tie.Need-put-cut-requires
-put-cut-requires c κs =
-    let a = c .before .before .before .before .before .before .before .before .before .before .before .before .before .before .before .before .before .before .before .before .before .before .before .before .before .before .before .before .before .before .args in
-    let A = accepted _ _ _ _ _ _ _ _ _ (c .before .before .before .before .before .before .before .before .before .before .before .before .before .before .before .before .before .before .before .before .before .before .before .before .before .before .before .before .before .before .pre .0) in
-    let W = worked _ _ _ _ _ _ _ _ _ (a .i) (a .c) (c .before .before .before .before .before .before .before .before .before .before .before .before .before .before .before .before .before .before .before .before .before .before .before .before .before .before .before .before .before .before .pre .0) _ _ _ _ (rw (c .before .before .before .before .before .before .before .before .before .before .before .before .before .before .before .before .before .before .before .before .before .before .mark-cut .ensures) (marked (a .edges) (a .i) (a .edges) (c .before .before .before .before .before .before .before .before .before .before .before .before .before .before .before .before .before .before .before .before .before .before .before .before .before .before .before .before .before .before .pre .1) (A .edges .below))) (c .before .before .before .before .before .before .before .before .before .before .before .before .before .before .before .replace-wires .ensures) in
-    let p = places _ _ _ _ _ _ _ _ _ _ _ _ _ _ W (roomy _ _ _ _ _ _ _ _ _ _ _ _ _ _ W _ _ _ (c .before .before .before .before .before .before .before .before .before .before .vertices-fit .ensures) (c .before .before .before .before .before .before .before .edges-fit .ensures) (c .before .before .before .before .before .uses-fit .ensures) (c .before .before .before .before .if1 .taken)) in
-    (p .0, (c .before .before .before .before .before .before .before .before .before .before .before .before .before .before .before .before .before .before .before .before .before .before .before .before .before .before .before .before .before .before .pre .1, p .1 .0, p .1 .1))
-
-slice-aggregate-copy : tie.Need-slice-aggregate-copy
-slice-aggregate-copy c = search needs
-
-copy-requires : tie.Need-copy-requires
-copy-requires c κs =
-    let a = c .before .before .before .before .before .before .before .before .before .before .before .before .before .before .before .before .before .before .before .before .before .before .before .before .before .before .before .before .before .before .before .before .before .before .before .before .before .before .before .before .before .args in
-    let A = accepted _ _ _ _ _ _ _ _ _ (c .before .before .before .before .before .before .before .before .before .before .before .before .before .before .before .before .before .before .before .before .before .before .before .before .before .before .before .before .before .before .before .before .before .before .before .before .before .before .before .before .before .pre .0) in
-    let W = worked _ _ _ _ _ _ _ _ _ (a .i) (a .c) (c .before .before .before .before .before .before .before .before .before .before .before .before .before .before .before .before .before .before .before .before .before .before .before .before .before .before .before .before .before .before .before .before .before .before .before .before .before .before .before .before .before .pre .0) _ _ _ _ (rw (c .before .before .before .before .before .before .before .before .before .before .before .before .before .before .before .before .before .before .before .before .before .before .before .before .before .before .before .before .before .before .before .before .before .mark-cut .ensures) (marked (a .edges) (a .i) (a .edges) (c .before .before .before .before .before .before .before .before .before .before .before .before .before .before .before .before .before .before .before .before .before .before .before .before .before .before .before .before .before .before .before .before .before .before .before .before .before .before .before .before .before .pre .1) (A .edges .below))) (c .before .before .before .before .before .before .before .before .before .before .before .before .before .before .before .before .before .before .before .before .before .before .before .before .before .before .replace-wires .ensures) in
-    let p = places _ _ _ _ _ _ _ _ _ _ _ _ _ _ W (roomy _ _ _ _ _ _ _ _ _ _ _ _ _ _ W _ _ _ (c .before .before .before .before .before .before .before .before .before .before .before .before .before .before .before .before .before .before .before .before .before .vertices-fit .ensures) (c .before .before .before .before .before .before .before .before .before .before .before .before .before .before .before .before .before .before .edges-fit .ensures) (c .before .before .before .before .before .before .before .before .before .before .before .before .before .before .before .before .uses-fit .ensures) (c .before .before .before .before .before .before .before .before .before .before .before .before .before .before .before .if1 .taken)) in
-    (omega (arith, p .2 .0, c .before .before .before .before .before .before .before .before .before .before .before .before .before .before .before .before .before .before .before .before .before .before .before .before .before .before .replace-wires .kept .1 .1 .1 .1 .0), p .2 .1)
-
-slice-aggregate-copy-2 : tie.Need-slice-aggregate-copy-2
-slice-aggregate-copy-2 c = search needs
-
-copy-requires-2 : tie.Need-copy-requires-2
-copy-requires-2 c κs =
-    let A = accepted _ _ _ _ _ _ _ _ _ (c .before .before .before .before .before .before .before .before .before .before .before .before .before .before .before .before .before .before .before .before .before .before .before .before .before .before .before .before .before .before .before .before .before .before .before .before .before .before .before .before .before .before .before .before .before .before .pre .0) in
-    (omega (arith, A .wires .below, c .before .before .before .before .before .before .before .before .before .before .before .before .before .before .before .before .before .before .before .before .before .before .before .before .before .before .before .before .before .before .before .replace-wires .kept .1 .1 .1 .1 .1 .0), A .wires .lengths)
-
-add-answer : tie.Need-add-answer
-add-answer c =
-    let A = accepted _ _ _ _ _ _ _ _ _ (c .before .before .before .before .before .before .before .before .before .before .before .before .before .before .before .before .before .before .before .before .before .before .before .before .before .before .before .before .before .before .before .before .before .before .before .before .before .before .before .before .before .before .before .before .before .before .before .before .before .pre .0) in
-    omega (arith, A .vertices .below)
-
-add-answer-2 : tie.Need-add-answer-2
-add-answer-2 c =
-    let A = accepted _ _ _ _ _ _ _ _ _ (c .before .before .before .before .before .before .before .before .before .before .before .before .before .before .before .before .before .before .before .before .before .before .before .before .before .before .before .before .before .before .before .before .before .before .before .before .before .before .before .before .before .before .before .before .before .before .before .before .before .pre .0) in
-    omega (arith, A .edges .below)
-
-answer-requires : tie.Need-answer-requires
-answer-requires c κs = search needs
+    let s = c .before .before .before .before .before .before .before .before .before .before .is-small .ensures (c .before .before .before .before .before .before .before .before .before .if1 .taken) in
+    (c .before .before .before .before .before .before .before .before .before .before .before .before .before .before .before .before .before .before .before .pre, (refl, omega (arith, s .0), omega (arith, s .1, c .before .before .before .before .before .before .before .before .before .before .before .total-uses .ensures), omega arith))
 
 same-length : tie.Need-same-length
 same-length c = search needs
@@ -116,16 +48,21 @@ same-length-6 : tie.Need-same-length-6
 same-length-6 c = search needs
 
 returns : tie.Need-returns
-returns c =
-    let a = c .before .before .before .before .before .before .before .before .before .before .before .before .before .before .before .before .before .before .before .before .before .before .before .before .before .before .before .before .before .before .before .before .before .before .before .before .before .before .before .before .before .before .before .before .before .before .before .before .before .before .args in
-    let A = accepted _ _ _ _ _ _ _ _ _ (c .before .before .before .before .before .before .before .before .before .before .before .before .before .before .before .before .before .before .before .before .before .before .before .before .before .before .before .before .before .before .before .before .before .before .before .before .before .before .before .before .before .before .before .before .before .before .before .before .before .before .pre .0) in
-    let W = worked _ _ _ _ _ _ _ _ _ (a .i) (a .c) (c .before .before .before .before .before .before .before .before .before .before .before .before .before .before .before .before .before .before .before .before .before .before .before .before .before .before .before .before .before .before .before .before .before .before .before .before .before .before .before .before .before .before .before .before .before .before .before .before .before .before .pre .0) _ _ _ _ (rw (c .before .before .before .before .before .before .before .before .before .before .before .before .before .before .before .before .before .before .before .before .before .before .before .before .before .before .before .before .before .before .before .before .before .before .before .before .before .before .before .before .before .before .mark-cut .ensures) (marked (a .edges) (a .i) (a .edges) (c .before .before .before .before .before .before .before .before .before .before .before .before .before .before .before .before .before .before .before .before .before .before .before .before .before .before .before .before .before .before .before .before .before .before .before .before .before .before .before .before .before .before .before .before .before .before .before .before .before .before .pre .1) (A .edges .below))) (c .before .before .before .before .before .before .before .before .before .before .before .before .before .before .before .before .before .before .before .before .before .before .before .before .before .before .before .before .before .before .before .before .before .before .before .replace-wires .ensures) in
-    let R = roomy _ _ _ _ _ _ _ _ _ _ _ _ _ _ W _ _ _ (c .before .before .before .before .before .before .before .before .before .before .before .before .before .before .before .before .before .before .before .before .before .before .before .before .before .before .before .before .before .before .vertices-fit .ensures) (c .before .before .before .before .before .before .before .before .before .before .before .before .before .before .before .before .before .before .before .before .before .before .before .before .before .before .before .edges-fit .ensures) (c .before .before .before .before .before .before .before .before .before .before .before .before .before .before .before .before .before .before .before .before .before .before .before .before .before .uses-fit .ensures) (c .before .before .before .before .before .before .before .before .before .before .before .before .before .before .before .before .before .before .before .before .before .before .before .before .if1 .taken) in
-    let p = c .before .before .before .before .before .before .before .before .before .before .before .before .before .before .before .before .before .before .before .put-cut .ensures in
-    rw (c .answer .ensures) (outcome-done _ _ _ _ _ _ _ _ _ _ _ _ _ _ W _ _ _ _ _ _ R (c .before .before .before .before .before .before .before .before .before .before .before .before .before .before .before .before .before .before .before .before .before .before .before .before .before .before .before .before .before .before .before .before .before .before .before .before .before .before .before .before .before .before .before .before .before .before .before .before .before .before .pre .1) (p .0) (p .1 .0) (p .1 .1 .0) (p .1 .1 .1) (c .before .before .before .before .before .before .before .before .copy .ensures) (c .before .before .before .copy2 .ensures))
+returns c = search needs
 
-answer-requires-2 : tie.Need-answer-requires-2
-answer-requires-2 c κs = search needs
+slice-aggregate-cut-within-4 : tie.Need-slice-aggregate-cut-within-4
+slice-aggregate-cut-within-4 c = search needs
+
+slice-aggregate-cut-within-5 : tie.Need-slice-aggregate-cut-within-5
+slice-aggregate-cut-within-5 c = search needs
+
+slice-aggregate-cut-within-6 : tie.Need-slice-aggregate-cut-within-6
+slice-aggregate-cut-within-6 c = search needs
+
+cut-within-requires-2 : tie.Need-cut-within-requires-2
+cut-within-requires-2 c κs =
+    let A = accepted _ _ _ _ _ _ _ _ _ (c .before .before .before .before .before .before .before .before .before .before .before .before .before .before .before .before .before .before .before .pre .0) in
+    (c .before .before .before .before .before .before .before .before .before .before .before .before .before .before .before .before .before .before .before .pre, (refl, omega (arith, A .edges .below), omega (arith, A .wires .few), omega arith))
 
 same-length-7 : tie.Need-same-length-7
 same-length-7 c = search needs
@@ -146,36 +83,18 @@ same-length-12 : tie.Need-same-length-12
 same-length-12 c = search needs
 
 returns-2 : tie.Need-returns-2
-returns-2 c =
-    let a = c .before .before .before .before .before .before .before .before .before .before .before .before .before .before .before .before .before .before .before .before .before .before .before .before .before .before .before .args in
-    let A = accepted _ _ _ _ _ _ _ _ _ (c .before .before .before .before .before .before .before .before .before .before .before .before .before .before .before .before .before .before .before .before .before .before .before .before .before .before .before .pre .0) in
-    let W = worked _ _ _ _ _ _ _ _ _ (a .i) (a .c) (c .before .before .before .before .before .before .before .before .before .before .before .before .before .before .before .before .before .before .before .before .before .before .before .before .before .before .before .pre .0) _ _ _ _ (rw (c .before .before .before .before .before .before .before .before .before .before .before .before .before .before .before .before .before .before .before .mark-cut .ensures) (marked (a .edges) (a .i) (a .edges) (c .before .before .before .before .before .before .before .before .before .before .before .before .before .before .before .before .before .before .before .before .before .before .before .before .before .before .before .pre .1) (A .edges .below))) (c .before .before .before .before .before .before .before .before .before .before .before .before .replace-wires .ensures) in
-    rw (c .answer2 .ensures) (outcome-full _ _ _ _ _ _ _ _ _ _ _ _ _ _ W _ _ _ (c .before .before .before .before .before .before .before .vertices-fit .ensures) (c .before .before .before .before .edges-fit .ensures) (c .before .before .uses-fit .ensures) (c .before .if1 .left))
+returns-2 c = search needs
 
 pub cut-checked-spec : {M : Type 1} → statement M
 cut-checked-spec =
     tie.close
     (tie.spec
-    slice-aggregate-mark-cut
-    mark-cut-requires
-    array-share-prefix-added
-    slice-aggregate-replace-wires
-    slice-aggregate-replace-wires-2
-    slice-aggregate-replace-wires-3
-    replace-wires-requires
-    add-vertices-fit
-    vertices-fit-requires
-    add-edges-fit
-    edges-fit-requires
-    uses-fit-requires
-    put-cut-requires
-    slice-aggregate-copy
-    copy-requires
-    slice-aggregate-copy-2
-    copy-requires-2
-    add-answer
-    add-answer-2
-    answer-requires
+    total-uses-requires
+    is-small-requires
+    slice-aggregate-cut-within
+    slice-aggregate-cut-within-2
+    slice-aggregate-cut-within-3
+    cut-within-requires
     same-length
     same-length-2
     same-length-3
@@ -183,7 +102,10 @@ cut-checked-spec =
     same-length-5
     same-length-6
     returns
-    answer-requires-2
+    slice-aggregate-cut-within-4
+    slice-aggregate-cut-within-5
+    slice-aggregate-cut-within-6
+    cut-within-requires-2
     same-length-7
     same-length-8
     same-length-9

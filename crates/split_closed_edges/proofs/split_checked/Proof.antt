@@ -1,95 +1,32 @@
--- `split_closed_edges::split_checked` meets its contract. Assumes nothing.
-use mathlib.Core.Path.{sym}
+-- `split_closed_edges::split_checked` meets its contract: the arrays have room for a shell of either size. Assumes nothing.
 use native.Mathlib.Omega.{arith}
-use lib.Seq.{length-take-le}
 use borrow.Author.Needs.{needs}
-use Rattle.compress.proofs.Room.{uses-room}
-use Rattle.split_closed_edges.proofs.Outcome.{accepted, replaceable, worked, small, cuts-le, roomy, addable, outcome-full, outcome-done}
+use Rattle.split_closed_edges.proofs.Outcome.{accepted}
 use Rattle.split_closed_edges.proofs.split_checked.Statement.{statement}
 use Rattle.split_closed_edges.proofs.split_checked.Tie as tie
 
-slice-aggregate-mark-closed : tie.Need-slice-aggregate-mark-closed
-slice-aggregate-mark-closed c = search needs
+total-uses-requires : tie.Need-total-uses-requires
+total-uses-requires c κs =
+    let A = accepted _ _ _ _ _ _ _ _ _ (c .before .before .before .before .before .before .before .pre) in
+    (A .wires .below, A .wires .lengths)
 
-mark-closed-requires : tie.Need-mark-closed-requires
-mark-closed-requires c κs =
-    let A = accepted _ _ _ _ _ _ _ _ _ (c .before .before .before .before .before .before .before .before .pre) in
-    (A .edges .below, A .edges .numbers, A .edges .below)
+is-small-requires : tie.Need-is-small-requires
+is-small-requires c κs = search needs
 
-array-share-prefix-added : tie.Need-array-share-prefix-added
-array-share-prefix-added c =
-    let A = accepted _ _ _ _ _ _ _ _ _ (c .before .before .before .before .before .before .before .before .before .before .before .before .pre) in
-    omega (arith, A .edges .below, c .before .before .before .mark-closed .kept .1 .1 .0)
+slice-aggregate-split-within : tie.Need-slice-aggregate-split-within
+slice-aggregate-split-within c = search needs
 
-slice-aggregate-replace-wires : tie.Need-slice-aggregate-replace-wires
-slice-aggregate-replace-wires c =
-    let A = accepted _ _ _ _ _ _ _ _ _ (c .before .before .before .before .before .before .before .before .before .before .before .before .before .pre) in
-    sym (length-take-le _ _ (omega (arith, A .edges .below, c .before .before .before .before .mark-closed .kept .1 .1 .0)))
+slice-aggregate-split-within-2 : tie.Need-slice-aggregate-split-within-2
+slice-aggregate-split-within-2 c = search needs
 
-slice-aggregate-replace-wires-2 : tie.Need-slice-aggregate-replace-wires-2
-slice-aggregate-replace-wires-2 c = search needs
+slice-aggregate-split-within-3 : tie.Need-slice-aggregate-split-within-3
+slice-aggregate-split-within-3 c = search needs
 
-slice-aggregate-replace-wires-3 : tie.Need-slice-aggregate-replace-wires-3
-slice-aggregate-replace-wires-3 c = search needs
-
-replace-wires-requires : tie.Need-replace-wires-requires
-replace-wires-requires c κs = replaceable _ _ _ _ _ _ _ _ _ (c .before .before .before .before .before .before .before .before .before .before .before .before .before .before .before .pre) _ _ _ _ (c .before .before .before .before .before .before .mark-closed .ensures (c .before .before .before .before .before .before .before .before .before .before .before .before .before .before .before .args .edge-floats .now)) (omega arith) (omega arith)
-
-add-vertices-fit : tie.Need-add-vertices-fit
-add-vertices-fit c =
-    let W = worked _ _ _ _ _ _ _ _ _ (c .before .before .before .before .before .before .before .before .before .before .before .before .before .before .before .before .before .before .before .before .pre) _ _ _ _ _ (c .before .before .before .before .before .before .before .before .before .before .before .mark-closed .ensures (c .before .before .before .before .before .before .before .before .before .before .before .before .before .before .before .before .before .before .before .before .args .edge-floats .now)) (c .before .before .before .before .replace-wires .ensures) in
-    omega (arith, cuts-le _ _ _ _ _ _ _ _ _ _ _ _ _ W, small _ _ _ _ _ _ _ _ _ _ _ _ _ W)
-
-vertices-fit-requires : tie.Need-vertices-fit-requires
-vertices-fit-requires c κs = search needs
-
-add-edges-fit : tie.Need-add-edges-fit
-add-edges-fit c =
-    let W = worked _ _ _ _ _ _ _ _ _ (c .before .before .before .before .before .before .before .before .before .before .before .before .before .before .before .before .before .before .before .before .before .before .before .pre) _ _ _ _ _ (c .before .before .before .before .before .before .before .before .before .before .before .before .before .before .mark-closed .ensures (c .before .before .before .before .before .before .before .before .before .before .before .before .before .before .before .before .before .before .before .before .before .before .before .args .edge-floats .now)) (c .before .before .before .before .before .before .before .replace-wires .ensures) in
-    omega (arith, cuts-le _ _ _ _ _ _ _ _ _ _ _ _ _ W, small _ _ _ _ _ _ _ _ _ _ _ _ _ W)
-
-edges-fit-requires : tie.Need-edges-fit-requires
-edges-fit-requires c κs = search needs
-
-uses-fit-requires : tie.Need-uses-fit-requires
-uses-fit-requires c κs = search needs
-
-add-edges-requires : tie.Need-add-edges-requires
-add-edges-requires c κs =
-    let W = worked _ _ _ _ _ _ _ _ _ (c .before .before .before .before .before .before .before .before .before .before .before .before .before .before .before .before .before .before .before .before .before .before .before .before .before .before .before .before .before .before .before .pre) _ _ _ _ _ (c .before .before .before .before .before .before .before .before .before .before .before .before .before .before .before .before .before .before .before .before .before .before .mark-closed .ensures (c .before .before .before .before .before .before .before .before .before .before .before .before .before .before .before .before .before .before .before .before .before .before .before .before .before .before .before .before .before .before .before .args .edge-floats .now)) (c .before .before .before .before .before .before .before .before .before .before .before .before .before .before .before .replace-wires .ensures) in
-    addable _ _ _ _ _ _ _ _ _ _ _ _ _ W (roomy _ _ _ _ _ _ _ _ _ _ _ _ _ W _ _ _ (c .before .before .before .before .before .before .before .before .before .before .vertices-fit .ensures) (c .before .before .before .before .before .before .before .edges-fit .ensures) (c .before .before .before .before .before .uses-fit .ensures) (c .before .before .before .before .if1 .taken))
-
-slice-aggregate-copy : tie.Need-slice-aggregate-copy
-slice-aggregate-copy c = search needs
-
-copy-requires : tie.Need-copy-requires
-copy-requires c κs =
-    let W = worked _ _ _ _ _ _ _ _ _ (c .before .before .before .before .before .before .before .before .before .before .before .before .before .before .before .before .before .before .before .before .before .before .before .before .before .before .before .before .before .before .before .before .before .before .before .before .before .before .before .before .before .before .pre) _ _ _ _ _ (c .before .before .before .before .before .before .before .before .before .before .before .before .before .before .before .before .before .before .before .before .before .before .before .before .before .before .before .before .before .before .before .before .before .mark-closed .ensures (c .before .before .before .before .before .before .before .before .before .before .before .before .before .before .before .before .before .before .before .before .before .before .before .before .before .before .before .before .before .before .before .before .before .before .before .before .before .before .before .before .before .before .args .edge-floats .now)) (c .before .before .before .before .before .before .before .before .before .before .before .before .before .before .before .before .before .before .before .before .before .before .before .before .before .before .replace-wires .ensures) in
-    let R = roomy _ _ _ _ _ _ _ _ _ _ _ _ _ W _ _ _ (c .before .before .before .before .before .before .before .before .before .before .before .before .before .before .before .before .before .before .before .before .before .vertices-fit .ensures) (c .before .before .before .before .before .before .before .before .before .before .before .before .before .before .before .before .before .before .edges-fit .ensures) (c .before .before .before .before .before .before .before .before .before .before .before .before .before .before .before .before .uses-fit .ensures) (c .before .before .before .before .before .before .before .before .before .before .before .before .before .before .before .if1 .taken) in
-    let u = uses-room _ _ (R .uses) in
-    (omega (arith, u .0, c .before .before .before .before .before .before .before .before .before .before .before .before .before .before .before .before .before .before .before .before .before .before .before .before .before .before .replace-wires .kept .1 .1 .1 .1 .0), u .1)
-
-slice-aggregate-copy-2 : tie.Need-slice-aggregate-copy-2
-slice-aggregate-copy-2 c = search needs
-
-copy-requires-2 : tie.Need-copy-requires-2
-copy-requires-2 c κs =
-    let W = worked _ _ _ _ _ _ _ _ _ (c .before .before .before .before .before .before .before .before .before .before .before .before .before .before .before .before .before .before .before .before .before .before .before .before .before .before .before .before .before .before .before .before .before .before .before .before .before .before .before .before .before .before .before .before .before .before .before .pre) _ _ _ _ _ (c .before .before .before .before .before .before .before .before .before .before .before .before .before .before .before .before .before .before .before .before .before .before .before .before .before .before .before .before .before .before .before .before .before .before .before .before .before .before .mark-closed .ensures (c .before .before .before .before .before .before .before .before .before .before .before .before .before .before .before .before .before .before .before .before .before .before .before .before .before .before .before .before .before .before .before .before .before .before .before .before .before .before .before .before .before .before .before .before .before .before .before .args .edge-floats .now)) (c .before .before .before .before .before .before .before .before .before .before .before .before .before .before .before .before .before .before .before .before .before .before .before .before .before .before .before .before .before .before .before .replace-wires .ensures) in
-    let s = small _ _ _ _ _ _ _ _ _ _ _ _ _ W in
-    (omega (arith, s .2, c .before .before .before .before .before .before .before .before .before .before .before .before .before .before .before .before .before .before .before .before .before .before .before .before .before .before .before .before .before .before .before .replace-wires .kept .1 .1 .1 .1 .1 .0), s .3)
-
-add-answer : tie.Need-add-answer
-add-answer c =
-    let W = worked _ _ _ _ _ _ _ _ _ (c .before .before .before .before .before .before .before .before .before .before .before .before .before .before .before .before .before .before .before .before .before .before .before .before .before .before .before .before .before .before .before .before .before .before .before .before .before .before .before .before .before .before .before .before .before .before .before .before .before .before .pre) _ _ _ _ _ (c .before .before .before .before .before .before .before .before .before .before .before .before .before .before .before .before .before .before .before .before .before .before .before .before .before .before .before .before .before .before .before .before .before .before .before .before .before .before .before .before .before .mark-closed .ensures (c .before .before .before .before .before .before .before .before .before .before .before .before .before .before .before .before .before .before .before .before .before .before .before .before .before .before .before .before .before .before .before .before .before .before .before .before .before .before .before .before .before .before .before .before .before .before .before .before .before .before .args .edge-floats .now)) (c .before .before .before .before .before .before .before .before .before .before .before .before .before .before .before .before .before .before .before .before .before .before .before .before .before .before .before .before .before .before .before .before .before .before .replace-wires .ensures) in
-    omega (arith, cuts-le _ _ _ _ _ _ _ _ _ _ _ _ _ W, small _ _ _ _ _ _ _ _ _ _ _ _ _ W)
-
-add-answer-2 : tie.Need-add-answer-2
-add-answer-2 c =
-    let W = worked _ _ _ _ _ _ _ _ _ (c .before .before .before .before .before .before .before .before .before .before .before .before .before .before .before .before .before .before .before .before .before .before .before .before .before .before .before .before .before .before .before .before .before .before .before .before .before .before .before .before .before .before .before .before .before .before .before .before .before .before .pre) _ _ _ _ _ (c .before .before .before .before .before .before .before .before .before .before .before .before .before .before .before .before .before .before .before .before .before .before .before .before .before .before .before .before .before .before .before .before .before .before .before .before .before .before .before .before .before .mark-closed .ensures (c .before .before .before .before .before .before .before .before .before .before .before .before .before .before .before .before .before .before .before .before .before .before .before .before .before .before .before .before .before .before .before .before .before .before .before .before .before .before .before .before .before .before .before .before .before .before .before .before .before .before .args .edge-floats .now)) (c .before .before .before .before .before .before .before .before .before .before .before .before .before .before .before .before .before .before .before .before .before .before .before .before .before .before .before .before .before .before .before .before .before .before .replace-wires .ensures) in
-    omega (arith, cuts-le _ _ _ _ _ _ _ _ _ _ _ _ _ W, small _ _ _ _ _ _ _ _ _ _ _ _ _ W)
-
-answer-requires : tie.Need-answer-requires
-answer-requires c κs = search needs
+split-within-requires : tie.Need-split-within-requires
+split-within-requires c κs =
+    let A = accepted _ _ _ _ _ _ _ _ _ (c .before .before .before .before .before .before .before .before .before .before .before .before .before .before .before .before .before .before .before .pre) in
+    let s = c .before .before .before .before .before .before .before .before .before .before .is-small .ensures (c .before .before .before .before .before .before .before .before .before .if1 .taken) in
+    (c .before .before .before .before .before .before .before .before .before .before .before .before .before .before .before .before .before .before .before .pre, (omega (arith, s .0), omega (arith, s .1, c .before .before .before .before .before .before .before .before .before .before .before .total-uses .ensures), omega arith))
 
 same-length : tie.Need-same-length
 same-length c = search needs
@@ -110,13 +47,21 @@ same-length-6 : tie.Need-same-length-6
 same-length-6 c = search needs
 
 returns : tie.Need-returns
-returns c =
-    let W = worked _ _ _ _ _ _ _ _ _ (c .before .before .before .before .before .before .before .before .before .before .before .before .before .before .before .before .before .before .before .before .before .before .before .before .before .before .before .before .before .before .before .before .before .before .before .before .before .before .before .before .before .before .before .before .before .before .before .before .before .before .before .pre) _ _ _ _ _ (c .before .before .before .before .before .before .before .before .before .before .before .before .before .before .before .before .before .before .before .before .before .before .before .before .before .before .before .before .before .before .before .before .before .before .before .before .before .before .before .before .before .before .mark-closed .ensures (c .before .before .before .before .before .before .before .before .before .before .before .before .before .before .before .before .before .before .before .before .before .before .before .before .before .before .before .before .before .before .before .before .before .before .before .before .before .before .before .before .before .before .before .before .before .before .before .before .before .before .before .args .edge-floats .now)) (c .before .before .before .before .before .before .before .before .before .before .before .before .before .before .before .before .before .before .before .before .before .before .before .before .before .before .before .before .before .before .before .before .before .before .before .replace-wires .ensures) in
-    rw (c .answer .ensures)
-    (outcome-done _ _ _ _ _ _ _ _ _ _ _ _ _ W _ _ _ _ _ _ (roomy _ _ _ _ _ _ _ _ _ _ _ _ _ W _ _ _ (c .before .before .before .before .before .before .before .before .before .before .before .before .before .before .before .before .before .before .before .before .before .before .before .before .before .before .before .before .before .before .vertices-fit .ensures) (c .before .before .before .before .before .before .before .before .before .before .before .before .before .before .before .before .before .before .before .before .before .before .before .before .before .before .before .edges-fit .ensures) (c .before .before .before .before .before .before .before .before .before .before .before .before .before .before .before .before .before .before .before .before .before .before .before .before .before .uses-fit .ensures) (c .before .before .before .before .before .before .before .before .before .before .before .before .before .before .before .before .before .before .before .before .before .before .before .before .if1 .taken)) (c .before .before .before .before .before .before .before .before .before .before .before .before .before .before .before .before .before .before .before .before .before .before .before .before .before .before .before .before .before .before .before .before .before .before .before .before .before .before .before .before .before .before .before .before .before .before .before .before .before .before .before .pre) (c .before .before .before .before .before .before .before .before .before .before .before .before .before .before .before .before .before .before .before .add-edges .ensures) (c .before .before .before .before .before .before .before .before .copy .ensures) (c .before .before .before .copy2 .ensures))
+returns c = search needs
 
-answer-requires-2 : tie.Need-answer-requires-2
-answer-requires-2 c κs = search needs
+slice-aggregate-split-within-4 : tie.Need-slice-aggregate-split-within-4
+slice-aggregate-split-within-4 c = search needs
+
+slice-aggregate-split-within-5 : tie.Need-slice-aggregate-split-within-5
+slice-aggregate-split-within-5 c = search needs
+
+slice-aggregate-split-within-6 : tie.Need-slice-aggregate-split-within-6
+slice-aggregate-split-within-6 c = search needs
+
+split-within-requires-2 : tie.Need-split-within-requires-2
+split-within-requires-2 c κs =
+    let A = accepted _ _ _ _ _ _ _ _ _ (c .before .before .before .before .before .before .before .before .before .before .before .before .before .before .before .before .before .before .before .pre) in
+    (c .before .before .before .before .before .before .before .before .before .before .before .before .before .before .before .before .before .before .before .pre, (omega (arith, A .edges .below), omega (arith, A .wires .few), omega arith))
 
 same-length-7 : tie.Need-same-length-7
 same-length-7 c = search needs
@@ -137,35 +82,18 @@ same-length-12 : tie.Need-same-length-12
 same-length-12 c = search needs
 
 returns-2 : tie.Need-returns-2
-returns-2 c =
-    let W = worked _ _ _ _ _ _ _ _ _ (c .before .before .before .before .before .before .before .before .before .before .before .before .before .before .before .before .before .before .before .before .before .before .before .before .before .before .before .before .pre) _ _ _ _ _ (c .before .before .before .before .before .before .before .before .before .before .before .before .before .before .before .before .before .before .before .mark-closed .ensures (c .before .before .before .before .before .before .before .before .before .before .before .before .before .before .before .before .before .before .before .before .before .before .before .before .before .before .before .before .args .edge-floats .now)) (c .before .before .before .before .before .before .before .before .before .before .before .before .replace-wires .ensures) in
-    rw (c .answer2 .ensures)
-    (outcome-full _ _ _ _ _ _ _ _ _ _ _ _ _ W _ _ _ (c .before .before .before .before .before .before .before .vertices-fit .ensures) (c .before .before .before .before .edges-fit .ensures) (c .before .before .uses-fit .ensures) (c .before .if1 .left) (c .before .before .before .before .before .before .before .before .before .before .before .before .before .before .before .before .before .before .before .before .before .before .before .before .before .before .before .before .pre))
+returns-2 c = search needs
 
 pub split-checked-spec : {M : Type 1} → statement M
 split-checked-spec =
     tie.close
     (tie.spec
-    slice-aggregate-mark-closed
-    mark-closed-requires
-    array-share-prefix-added
-    slice-aggregate-replace-wires
-    slice-aggregate-replace-wires-2
-    slice-aggregate-replace-wires-3
-    replace-wires-requires
-    add-vertices-fit
-    vertices-fit-requires
-    add-edges-fit
-    edges-fit-requires
-    uses-fit-requires
-    add-edges-requires
-    slice-aggregate-copy
-    copy-requires
-    slice-aggregate-copy-2
-    copy-requires-2
-    add-answer
-    add-answer-2
-    answer-requires
+    total-uses-requires
+    is-small-requires
+    slice-aggregate-split-within
+    slice-aggregate-split-within-2
+    slice-aggregate-split-within-3
+    split-within-requires
     same-length
     same-length-2
     same-length-3
@@ -173,7 +101,10 @@ split-checked-spec =
     same-length-5
     same-length-6
     returns
-    answer-requires-2
+    slice-aggregate-split-within-4
+    slice-aggregate-split-within-5
+    slice-aggregate-split-within-6
+    split-within-requires-2
     same-length-7
     same-length-8
     same-length-9
