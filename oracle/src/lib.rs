@@ -10,7 +10,6 @@ pub mod differ;
 #[cfg(rust_at_hand)]
 pub mod healing;
 pub mod inputs;
-#[cfg(library_at_hand)]
 pub mod library;
 pub mod limits;
 pub mod model;

@@ -4,7 +4,7 @@
 //!     oracle store FILE
 //!     oracle replay FILE [--port P]
 //!
-//! P is `library`, the archive that was found at build time, or `reference`,
+//! P is `library`, the archive that was linked when this was built, or `reference`,
 //! the plain implementation of this crate. Groups are `limits`, `small`,
 //! `random`, `damaged` and `noise`; `--only` names calls. Any difference makes
 //! the exit status 1; a run that cannot be made, 2.
@@ -92,10 +92,7 @@ fn options(words: &[String]) -> Result<Options, String> {
 fn port(name: &str) -> Result<Box<dyn Port>, String> {
     match name {
         "reference" => Ok(Box::new(Reference::default())),
-        #[cfg(library_at_hand)]
         "library" => Ok(Box::new(oracle::library::Library)),
-        #[cfg(not(library_at_hand))]
-        "library" => Err("the library libhealing.a is not at hand".into()),
         _ => Err(USAGE.into()),
     }
 }
@@ -112,10 +109,6 @@ fn differ(options: &Options) -> Result<bool, String> {
     };
     let mut same = true;
     for call in calls(options)? {
-        if !port.has(call.name) {
-            println!("{}: not in this library, not run", call.name);
-            continue;
-        }
         let mut whole = Tally::default();
         for group in groups(options)? {
             let tally = (call.run)(port.as_ref(), group, plan);
@@ -189,10 +182,6 @@ fn replay(options: &Options, place: &str) -> Result<bool, String> {
     let tallies = stored::replay(port.as_ref(), &bytes)?;
     let mut same = true;
     for (call, tally) in &tallies {
-        if !port.has(call) {
-            println!("{call}: not in this library, not replayed");
-            continue;
-        }
         same &= report(call, "stored", tally, options.seed);
     }
     Ok(same)
