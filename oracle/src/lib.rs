@@ -12,8 +12,13 @@ pub mod healing;
 pub mod inputs;
 pub mod library;
 pub mod limits;
+#[cfg(rust_at_hand)]
+pub mod long_run;
 pub mod model;
+pub mod options;
 pub mod port;
+#[cfg(rust_at_hand)]
+pub mod progress;
 pub mod random;
 pub mod records;
 pub mod reference;
