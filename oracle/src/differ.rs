@@ -12,6 +12,7 @@ use crate::compare::Tally;
 use crate::port::{NearestCopy, Port, Unwrap, WireEnds};
 use crate::random::Random;
 use crate::shell::Lent;
+use std::ops::Range;
 
 /// A family of inputs.
 #[derive(Clone, Copy, Debug, PartialEq, Eq)]
@@ -32,6 +33,11 @@ impl Group {
         Group::Damaged,
         Group::Noise,
     ];
+
+    /// Whether there are as many inputs of this group as one likes.
+    pub fn is_random(self) -> bool {
+        matches!(self, Group::Random | Group::Damaged | Group::Noise)
+    }
 
     /// The name on the command line and in the summary.
     pub fn name(self) -> &'static str {
@@ -61,6 +67,8 @@ pub struct Plan {
 pub struct Runner {
     pub name: &'static str,
     pub run: fn(&dyn Port, Group, Plan) -> Tally,
+    /// Runs the inputs of a random group that have these indices under a seed.
+    pub run_part: fn(&dyn Port, Group, u64, Range<usize>) -> Tally,
     /// The answers and results that a whole run must have seen and has not.
     pub unseen: fn(&Tally) -> Vec<String>,
 }
@@ -70,6 +78,7 @@ const fn runner<I: Families>() -> Runner {
     Runner {
         name: I::NAME,
         run: run::<I>,
+        run_part: run_part::<I>,
         unseen: Tally::unseen::<I>,
     }
 }
@@ -88,36 +97,55 @@ pub const CALLS: [Runner; 10] = [
     runner::<SplitWires>(),
 ];
 
+/// How the inputs of a random group are made.
+fn maker<I: Families>(group: Group) -> Option<fn(&mut Random) -> I> {
+    match group {
+        Group::Random => Some(I::random),
+        Group::Damaged => Some(I::damaged),
+        Group::Noise => Some(I::noise),
+        Group::Small | Group::Limits => None,
+    }
+}
+
 /// Runs one group of one call.
 pub fn run<I: Families>(port: &dyn Port, group: Group, plan: Plan) -> Tally {
+    if group == Group::Limits {
+        return run_limits::<I>(port);
+    }
     let mut tally = Tally::default();
     let mut judge = |input: &I| {
         tally.judge(port, input, &input.expected());
         !(plan.hasty && tally.differences > 0)
     };
-    match group {
-        Group::Limits => return run_limits::<I>(port),
-        Group::Small => I::small(&mut judge),
-        Group::Random => each(group, plan, I::random, &mut judge),
-        Group::Damaged => each(group, plan, I::damaged, &mut judge),
-        Group::Noise => each(group, plan, I::noise, &mut judge),
+    match maker::<I>(group) {
+        None => I::small(&mut judge),
+        Some(make) => {
+            for index in 0..plan.calls * I::TIMES {
+                if !judge(&make(&mut Random::new(
+                    plan.seed,
+                    group as u64,
+                    index as u64,
+                ))) {
+                    break;
+                }
+            }
+        }
     }
     tally
 }
 
-/// Shows the inputs of a random group to the visitor, until it answers false.
-fn each<I: Families>(
-    group: Group,
-    plan: Plan,
-    make: fn(&mut Random) -> I,
-    visit: &mut dyn FnMut(&I) -> bool,
-) {
-    for index in 0..plan.calls * I::TIMES {
-        let mut random = Random::new(plan.seed, group as u64, index as u64);
-        if !visit(&make(&mut random)) {
-            return;
-        }
+/// Runs a part of a random group of one call.
+fn run_part<I: Families>(port: &dyn Port, group: Group, seed: u64, indices: Range<usize>) -> Tally {
+    let make = maker::<I>(group).expect("a random group");
+    let mut tally = Tally::default();
+    for index in indices.clone() {
+        let input = make(&mut Random::new(seed, group as u64, index as u64));
+        tally.judge(port, &input, &input.expected());
     }
+    if let Some(found) = &mut tally.smallest {
+        found.index += indices.start;
+    }
+    tally
 }
 
 /// Runs the named cases: their written answers must be the Rust's as well.

@@ -3,12 +3,12 @@
 //! This module stands where the sources expect their parent: it gives them
 //! the compressed records, the short names and the shim, and nothing else.
 
+mod hash;
+pub mod prepared;
 mod quiet;
 
 use crate::records;
 use crate::shim::*;
-use std::collections::hash_map::DefaultHasher;
-use std::hash::BuildHasherDefault;
 
 /// An edge: the numbers of its two vertices, and its curve.
 #[derive(Clone, Debug)]
@@ -40,10 +40,8 @@ pub struct CompressedShell<P, C, S> {
     pub faces: Vec<CompressedFace<S>>,
 }
 
-/// The maps of the standard library, with the same order in every run.
-type Hasher = BuildHasherDefault<DefaultHasher>;
-type HashMap<K, V> = std::collections::HashMap<K, V, Hasher>;
-type HashSet<K> = std::collections::HashSet<K, Hasher>;
+type HashMap<K, V> = std::collections::HashMap<K, V, hash::Build>;
+type HashSet<K> = std::collections::HashSet<K, hash::Build>;
 
 type Edge<C> = CompressedEdge<C>;
 type EdgeIndex = CompressedEdgeIndex;
@@ -122,7 +120,7 @@ pub fn nearest_correction(
 /// The Rust's `find_non_simple_wire_divisor`; an error where it panics
 /// because it reads past the end of a wire.
 pub fn find_divisor(shell: &records::Shell) -> Result<Option<[u32; 2]>, PastEnd> {
-    let wires: Vec<Wire> = shell.wires.iter().map(|wire| to_wire(wire)).collect();
+    let wires = to_wires(&shell.wires);
     let (points, edges) = (points(&shell.vertices), to_edges(&shell.edges));
     let search = || split_closed_faces::ways::divisor(&wires, &edges, &points);
     match quiet::caught(search) {
@@ -143,8 +141,9 @@ pub fn cut(shell: &records::Shell, edge: u32, t: f64, point: [f64; 3]) -> record
     let cut = (t, Point3::new(x, y, z));
     let before = stand_ins(&shell.vertices);
     let (mut points, mut edges) = (before.clone(), to_edges(&shell.edges));
-    let mut wires: Vec<Wire> = shell.wires.iter().map(|wire| to_wire(wire)).collect();
-    split_closed_faces::ways::cut(edge as usize, cut, &mut edges, &mut points, &mut wires);
+    let (mut lines, mut wires) = (no_lines(edges.len()), to_wires(&shell.wires));
+    let tables = (&mut edges, &mut lines, &mut points);
+    split_closed_faces::ways::cut(edge as usize, vec![cut], tables, &mut wires);
     let added = points.split_off(before.len());
     assert!(points == before, "vertices are only added");
     let given = |point: Point3| records::Vertex::Given(point.x, point.y, point.z);
@@ -153,7 +152,7 @@ pub fn cut(shell: &records::Shell, edge: u32, t: f64, point: [f64; 3]) -> record
     records::Shell {
         vertices,
         edges: edges.iter().map(from_rust).collect(),
-        wires: wires.iter().map(|wire| from_wire(wire)).collect(),
+        wires: from_wires(&wires),
     }
 }
 
@@ -164,11 +163,10 @@ pub fn join(
     new: &[Vec<u32>],
     [v0, v1]: [u32; 2],
 ) -> Option<Vec<Vec<u32>>> {
-    let new = new.iter().map(|wire| to_wire(wire)).collect();
     let (edges, open) = (to_edges(edges), open.map(to_wire).to_vec());
     let ends = (v0 as usize, v1 as usize);
-    let wires = split_closed_faces::ways::joined(new, ends, &edges, open)?;
-    Some(wires.iter().map(|wire| from_wire(wire)).collect())
+    let wires = split_closed_faces::ways::joined(to_wires(new), ends, &edges, open)?;
+    Some(from_wires(&wires))
 }
 
 /// What comes of a split: all edges, and the wires that are built.
@@ -191,20 +189,14 @@ pub fn split_by_divisor(
     list: &[(u32, [f64; 2])],
     surface: u32,
 ) -> Result<Rebuilt, Stuck> {
-    let [face, rebuilt] = [face, rebuilt].map(|wires| -> Vec<Wire> {
-        let wires = wires.iter();
-        wires.map(|wire| to_wire(wire)).collect()
-    });
-    let place = |&(vertex, uv): &(u32, [f64; 2])| (0.0, (vertex as usize, point2(uv)));
-    let on_divisor: Vec<_> = list.iter().map(place).collect();
+    let [face, rebuilt] = [face, rebuilt].map(to_wires);
+    let on_divisor = to_list(list);
     let (surface, mut edges) = (Surface { number: surface }, to_edges(edges));
-    let walk =
-        || split_closed_faces::ways::split(&face, &rebuilt, &on_divisor, surface, &mut edges);
+    let mut lines = no_lines(edges.len());
+    let tables = (&mut edges, &mut lines);
+    let walk = || split_closed_faces::ways::split([&face, &rebuilt], &on_divisor, surface, tables);
     match quiet::caught(walk) {
-        Ok(wires) => {
-            let wires = wires.iter().map(|wire| from_wire(wire)).collect();
-            Ok((edges.iter().map(from_rust).collect(), wires))
-        }
+        Ok(wires) => Ok((edges.iter().map(from_rust).collect(), from_wires(&wires))),
         Err(said) if said == "internal error: entered unreachable code" => Err(Stuck::DeadEnd),
         Err(said) if said == "something wrong!" => Err(Stuck::Crowd),
         Err(said) => panic!("the Rust panicked: {said}"),
@@ -275,6 +267,28 @@ fn from_wire(wire: &[EdgeIndex]) -> Vec<u32> {
         2 * edge_use.index as u32 + u32::from(!edge_use.orientation)
     };
     wire.iter().map(to_number).collect()
+}
+
+/// Wires as the Rust holds them.
+fn to_wires(wires: &[Vec<u32>]) -> Vec<Wire> {
+    wires.iter().map(|wire| to_wire(wire)).collect()
+}
+
+/// Wires as they are lent.
+fn from_wires(wires: &[Wire]) -> Vec<Vec<u32>> {
+    wires.iter().map(|wire| from_wire(wire)).collect()
+}
+
+/// The vertices on a divisor as the Rust holds them: each with a place on the
+/// line, which is not read any more, and its point.
+fn to_list(list: &[(u32, [f64; 2])]) -> Vec<(f64, (usize, Point2))> {
+    let place = |&(vertex, uv): &(u32, [f64; 2])| (0.0, (vertex as usize, point2(uv)));
+    list.iter().map(place).collect()
+}
+
+/// An empty polyline for each edge: they are carried along and not read.
+fn no_lines(edges: usize) -> Vec<PolylineCurve<Point3>> {
+    vec![PolylineCurve(Vec::new()); edges]
 }
 
 /// The wires as the Rust holds them: wire i stands in face i modulo `faces`.

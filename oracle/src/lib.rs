@@ -10,11 +10,15 @@ pub mod differ;
 #[cfg(rust_at_hand)]
 pub mod healing;
 pub mod inputs;
-#[cfg(library_at_hand)]
 pub mod library;
 pub mod limits;
+#[cfg(rust_at_hand)]
+pub mod long_run;
 pub mod model;
+pub mod options;
 pub mod port;
+#[cfg(rust_at_hand)]
+pub mod progress;
 pub mod random;
 pub mod records;
 pub mod reference;

@@ -1,26 +1,30 @@
 //! The command line of the oracle.
 //!
-//!     oracle differ [--seed N] [--calls N] [--groups A,B] [--only A,B] [--port P] [--stored FILE]
+//!     oracle differ [--seed N] [--calls N | --seconds S] [--groups A,B] [--only A,B] [--port P] [--stored FILE]
 //!     oracle store FILE
 //!     oracle replay FILE [--port P]
 //!
-//! P is `library`, the archive that was found at build time, or `reference`,
+//! P is `library`, the archive that was linked when this was built, or `reference`,
 //! the plain implementation of this crate. Groups are `limits`, `small`,
-//! `random`, `damaged` and `noise`; `--only` names calls. Any difference makes
-//! the exit status 1; a run that cannot be made, 2.
+//! `random`, `damaged` and `noise`; `--only` names calls. With `--calls` (or
+//! `--each`) the random groups of each call go on until at least N of their
+//! inputs were compared; with `--seconds` all calls together take about S. Any
+//! difference makes the exit status 1; a run that cannot be made, 2.
 
 use oracle::compare::Tally;
+#[cfg(rust_at_hand)]
+use oracle::differ::{Group, Runner};
+#[cfg(rust_at_hand)]
+use oracle::long_run::LongRun;
+#[cfg(rust_at_hand)]
+use oracle::options::Until;
+use oracle::options::{Options, USAGE};
 use oracle::port::Port;
+#[cfg(rust_at_hand)]
+use oracle::progress::Progress;
 use oracle::reference::Reference;
 use oracle::stored;
 use std::process::ExitCode;
-
-/// Where the stored answers stand if no other place is named.
-const STORED: &str = concat!(env!("CARGO_MANIFEST_DIR"), "/../crates/replay/stdin");
-
-/// How the program is called.
-const USAGE: &str = "oracle differ [--seed N] [--calls N] [--groups A,B] [--only A,B] \
-[--port library|reference] [--stored FILE] | store FILE | replay FILE";
 
 fn main() -> ExitCode {
     let words: Vec<String> = std::env::args().skip(1).collect();
@@ -34,21 +38,10 @@ fn main() -> ExitCode {
     }
 }
 
-/// What was asked for on the command line.
-struct Options {
-    seed: u64,
-    calls: usize,
-    groups: Option<String>,
-    only: Option<String>,
-    port: String,
-    stored: String,
-    place: Option<String>,
-}
-
 /// Runs one command; whether nothing differed.
 fn run(words: &[String]) -> Result<bool, String> {
     let (command, rest) = words.split_first().ok_or(USAGE)?;
-    let options = options(rest)?;
+    let options = Options::read(rest)?;
     match (command.as_str(), &options.place) {
         ("differ", None) => differ(&options),
         ("store", Some(place)) => store(place),
@@ -57,83 +50,102 @@ fn run(words: &[String]) -> Result<bool, String> {
     }
 }
 
-/// Reads the options.
-fn options(words: &[String]) -> Result<Options, String> {
-    let mut options = Options {
-        seed: 1,
-        calls: 20_000,
-        groups: None,
-        only: None,
-        port: "library".into(),
-        stored: STORED.into(),
-        place: None,
-    };
-    let mut words = words.iter();
-    while let Some(word) = words.next() {
-        let mut value = || words.next().cloned().ok_or(format!("{word} lacks a value"));
-        let number = |text: String| text.parse().map_err(|_| format!("{text} is no number"));
-        match word.as_str() {
-            "--seed" => options.seed = number(value()?)?,
-            "--calls" => options.calls = number(value()?)? as usize,
-            "--groups" => options.groups = Some(value()?),
-            "--only" => options.only = Some(value()?),
-            "--port" => options.port = value()?,
-            "--stored" => options.stored = value()?,
-            place if !place.starts_with('-') && options.place.is_none() => {
-                options.place = Some(place.into());
-            }
-            _ => return Err(USAGE.into()),
-        }
-    }
-    Ok(options)
-}
-
 /// The implementation that is put to the test.
 fn port(name: &str) -> Result<Box<dyn Port>, String> {
     match name {
         "reference" => Ok(Box::new(Reference::default())),
-        #[cfg(library_at_hand)]
         "library" => Ok(Box::new(oracle::library::Library)),
-        #[cfg(not(library_at_hand))]
-        "library" => Err("the library libhealing.a is not at hand".into()),
         _ => Err(USAGE.into()),
     }
 }
+
+/// Calls in each of the random groups of `split_closed_edges`, where no long
+/// run is asked for.
+#[cfg(rust_at_hand)]
+const CALLS: usize = 20_000;
 
 /// Runs the groups of all calls against the Rust.
 #[cfg(rust_at_hand)]
 fn differ(options: &Options) -> Result<bool, String> {
     use oracle::differ::Plan;
+    if let Some(until) = options.until {
+        return differ_long(options, until);
+    }
     let port = port(&options.port)?;
     let plan = Plan {
         seed: options.seed,
-        calls: options.calls,
+        calls: CALLS,
         hasty: false,
     };
     let mut same = true;
     for call in calls(options)? {
-        if !port.has(call.name) {
-            println!("{}: not in this library, not run", call.name);
-            continue;
-        }
         let mut whole = Tally::default();
         for group in groups(options)? {
             let tally = (call.run)(port.as_ref(), group, plan);
             same &= report(call.name, group.name(), &tally, options.seed);
             whole.count(&tally);
         }
-        let unseen = (call.unseen)(&whole).join(", ");
-        if !unseen.is_empty() {
-            println!("{}: answers never seen: {unseen}", call.name);
-            same &= options.groups.is_some();
-        }
+        same &= all_seen(&call, &whole) || options.groups.is_some();
     }
     Ok(same)
 }
 
+/// Runs all calls for long, each in its turn.
+#[cfg(rust_at_hand)]
+fn differ_long(options: &Options, until: Until) -> Result<bool, String> {
+    let port = port(&options.port)?;
+    let (calls, groups) = (calls(options)?, groups(options)?);
+    if !groups.iter().any(|group| group.is_random()) {
+        return Err("a long run needs a random group".into());
+    }
+    let run = LongRun {
+        port: port.as_ref(),
+        seed: options.seed,
+        groups: &groups,
+        until: match until {
+            Until::Seconds(seconds) => Until::Seconds(seconds / calls.len() as f64),
+            Until::Calls(_) => until,
+        },
+    };
+    let mut same = true;
+    for call in calls {
+        let mut progress = Progress::default();
+        let whole = run.run(&call, &mut |group, part, whole| {
+            progress.tell(|| compared(call.name, whole));
+            // Of the parts that differ the first is enough.
+            if part.differences > 0 && part.differences == whole.differences {
+                progress.clear();
+                report(call.name, group.name(), part, options.seed);
+            }
+        });
+        progress.clear();
+        same &= all_seen(&call, &whole) || options.groups.is_some();
+        println!("{}, seed {}", compared(call.name, &whole), options.seed);
+        same &= whole.differences == 0;
+    }
+    Ok(same)
+}
+
+/// How many calls were compared, and how many differed.
+#[cfg(rust_at_hand)]
+fn compared(name: &str, whole: &Tally) -> String {
+    let (calls, differences) = (whole.calls, whole.differences);
+    format!("{name}: {calls} calls compared, {differences} differences")
+}
+
+/// Whether every answer of a call was seen; if not, says which ones.
+#[cfg(rust_at_hand)]
+fn all_seen(call: &Runner, whole: &Tally) -> bool {
+    let unseen = (call.unseen)(whole).join(", ");
+    if !unseen.is_empty() {
+        println!("{}: answers never seen: {unseen}", call.name);
+    }
+    unseen.is_empty()
+}
+
 /// The calls that were asked for, or all.
 #[cfg(rust_at_hand)]
-fn calls(options: &Options) -> Result<Vec<oracle::differ::Runner>, String> {
+fn calls(options: &Options) -> Result<Vec<Runner>, String> {
     use oracle::differ::CALLS;
     let Some(names) = &options.only else {
         return Ok(CALLS.to_vec());
@@ -147,8 +159,7 @@ fn calls(options: &Options) -> Result<Vec<oracle::differ::Runner>, String> {
 
 /// The groups that were asked for, or all.
 #[cfg(rust_at_hand)]
-fn groups(options: &Options) -> Result<Vec<oracle::differ::Group>, String> {
-    use oracle::differ::Group;
+fn groups(options: &Options) -> Result<Vec<Group>, String> {
     let Some(names) = &options.groups else {
         return Ok(Group::ALL.to_vec());
     };
@@ -162,6 +173,9 @@ fn groups(options: &Options) -> Result<Vec<oracle::differ::Group>, String> {
 /// Falls back on the stored answers.
 #[cfg(not(rust_at_hand))]
 fn differ(options: &Options) -> Result<bool, String> {
+    if options.until.is_some() {
+        return Err("the Rust sources are not at hand, and a long run needs them".into());
+    }
     let place = &options.stored;
     println!("The Rust sources are not at hand; the stored answers are used instead.");
     replay(options, place)
@@ -189,10 +203,6 @@ fn replay(options: &Options, place: &str) -> Result<bool, String> {
     let tallies = stored::replay(port.as_ref(), &bytes)?;
     let mut same = true;
     for (call, tally) in &tallies {
-        if !port.has(call) {
-            println!("{call}: not in this library, not replayed");
-            continue;
-        }
         same &= report(call, "stored", tally, options.seed);
     }
     Ok(same)

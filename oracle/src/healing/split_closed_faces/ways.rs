@@ -2,6 +2,9 @@
 
 use super::*;
 
+/// The polylines that the Rust carries along, one for each edge.
+type Lines = Vec<PolylineCurve<Point3>>;
+
 /// The candidate nearest to `u0`.
 pub fn unwrapped(u: f64, u0: f64, period: f64) -> f64 {
     get_mindiff(u, u0, period)
@@ -21,6 +24,19 @@ pub fn kind(poly: &PolylineCurve<Point2>) -> u32 {
         BoundaryType::Negative => 1,
         BoundaryType::NotClosed => 2,
     }
+}
+
+/// The numbers of the two open wires and of the closed ones, sorted as
+/// `non_closed_wires_in_param_divisor` sorts the wires.
+pub fn sorted(polys: &[PolylineCurve<Point2>]) -> Option<(Vec<usize>, Vec<usize>)> {
+    let (mut open, mut closed) = (Vec::new(), Vec::new());
+    for (number, poly) in polys.iter().enumerate() {
+        match boundary_type(poly) {
+            BoundaryType::NotClosed => open.push(number),
+            _ => closed.push(number),
+        }
+    }
+    (open.len() == 2).then_some((open, closed))
 }
 
 /// The nearest ends of two stretches. The second vertex of the pair that is
@@ -57,17 +73,26 @@ pub fn divisor<C>(
 /// are gone through, the wires of all faces are mended, cut by cut.
 pub fn cut<C>(
     index: usize,
-    cut: (f64, Point3),
-    edges: &mut Vec<Edge<C>>,
-    vertices: &mut Vec<Point3>,
+    cut: Vec<(f64, Point3)>,
+    (edges, lines, vertices): (&mut Vec<Edge<C>>, &mut Lines, &mut Vec<Point3>),
     wires: &mut [Wire],
 ) where
     C: Cut<Point = Point3> + ParameterDivision1D<Point = Point3>,
 {
-    let mut lines = vec![PolylineCurve(Vec::new()); edges.len()];
-    let new = cut_edge_by_intersections(index, vec![cut], edges, &mut lines, vertices, 0.1);
+    let new = cut_edge_by_intersections(index, cut, edges, lines, vertices, 0.1);
     let mend = |wire: &mut Wire| insert_new_edges(wire, index, new.clone());
     wires.iter_mut().for_each(mend);
+}
+
+/// The new wires with the two open ones put in, in place of the face's wires.
+pub fn connect<C>(
+    wires: &mut Vec<Wire>,
+    new: Vec<Wire>,
+    ends: (usize, usize),
+    edges: &[Edge<C>],
+    open: Vec<Wire>,
+) -> Option<()> {
+    connect_open_boundaries(wires, new, ends, edges, open)
 }
 
 /// The new wires with the two open ones put in. Where there is nothing to be
@@ -80,7 +105,7 @@ pub fn joined<C>(
 ) -> Option<Vec<Wire>> {
     let before = vec![Vec::new(); 3];
     let mut wires = before.clone();
-    let found = connect_open_boundaries(&mut wires, new, ends, edges, open);
+    let found = connect(&mut wires, new, ends, edges, open);
     assert!(found.is_some() || wires == before, "none changes nothing");
     found.map(|()| wires)
 }
@@ -91,15 +116,13 @@ pub fn joined<C>(
 /// an odd list the last vertex is a chunk of its own, and `create_new_edges`
 /// panics as it reads its second.
 pub fn split(
-    face: &[Wire],
-    rebuilt: &[Wire],
+    [face, rebuilt]: [&[Wire]; 2],
     on_divisor: &[(f64, (usize, Point2))],
     surface: Surface,
-    edges: &mut Vec<Edge<On<Point3>>>,
+    (edges, lines): (&mut Vec<Edge<On<Point3>>>, &mut Lines),
 ) -> Vec<Wire> {
     let mut marked = duplicated_edges(face.iter().flatten().map(|ei| ei.index));
-    let mut lines = vec![PolylineCurve(Vec::new()); edges.len()];
-    let new_edges = create_new_edges(on_divisor, &mut lines, &surface, 0.1);
+    let new_edges = create_new_edges(on_divisor, lines, &surface, 0.1);
     let new_edges = new_edges.expect("a line on a surface is a seam");
     let (new_edge_range, new_edge_indices) = signup_new_edges(edges, new_edges);
     assert_eq!(lines.len(), edges.len(), "a polyline for each edge");

@@ -50,7 +50,9 @@ fn search(notation: &str) -> Option<(usize, usize)> {
 fn split(face: &[Wire], list: &[usize], edges: &mut Vec<Edge<On<Point3>>>) -> Vec<Wire> {
     let place = |&v: &usize| (0.0, (v, Point2::new(v as f64, 0.5)));
     let on_divisor: Vec<_> = list.iter().map(place).collect();
-    ways::split(face, face, &on_divisor, Surface { number: 3 }, edges)
+    let mut lines = vec![PolylineCurve(Vec::new()); edges.len()];
+    let tables = (edges, &mut lines);
+    ways::split([face, face], &on_divisor, Surface { number: 3 }, tables)
 }
 
 #[test]
