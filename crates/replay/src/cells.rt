@@ -20,6 +20,20 @@ pub struct Real {
     pub place: Place,
 }
 
+// How long the two buffers of a table are, and the place past them.
+pub struct Table {
+    pub numbers: usize,
+    pub floats: usize,
+    pub place: Place,
+}
+
+// How long two buffers of numbers are, and the place past them.
+pub struct Pair {
+    pub first: usize,
+    pub second: usize,
+    pub place: Place,
+}
+
 // ---- floats
 
 // Is this the bit pattern of a NaN? Without its sign it then lies above that of infinity.
@@ -176,7 +190,37 @@ pub fn read_floats(buf: &mut [u8], p: Place, cells: &mut [f64]) -> Length
     Length { count, place }
 }
 
+// Reads two buffers of numbers, to the fronts of two buffers.
+pub fn read_pair(buf: &mut [u8], p: Place, first: &mut [u32], second: &mut [u32]) -> Pair
+    requires { ⌜ (64 ≤ length (now first)) × (64 ≤ length (now second)) ⌝ }
+    ensures { λ r. ⌜ (r .first ≤ length (now (first .exit))) × (r .second ≤ length (now (second .exit))) ⌝ }
+{
+    let a = read_numbers(buf, p, first);
+    let b = read_numbers(buf, a.place, second);
+    let place = b.place;
+    Pair {
+        first: a.count,
+        second: b.count,
+        place,
+    }
+}
+
 // ---- a table of rows: its numbers, and then its floats
+
+// Reads the two buffers of a table, to the fronts of two buffers.
+pub fn read_table(buf: &mut [u8], p: Place, numbers: &mut [u32], floats: &mut [f64]) -> Table
+    requires { ⌜ (64 ≤ length (now numbers)) × (64 ≤ length (now floats)) ⌝ }
+    ensures { λ r. ⌜ (r .numbers ≤ length (now (numbers .exit))) × (r .floats ≤ length (now (floats .exit))) ⌝ }
+{
+    let a = read_numbers(buf, p, numbers);
+    let b = read_floats(buf, a.place, floats);
+    let place = b.place;
+    Table {
+        numbers: a.count,
+        floats: b.count,
+        place,
+    }
+}
 
 // Fills the buffers of a table from the list.
 pub fn fill_table(buf: &mut [u8], p: Place, numbers: &mut [u32], floats: &mut [f64]) -> Place

@@ -87,8 +87,8 @@ nearest-correction-requires c κs = search needs
 answer-of-requires : tie.Need-answer-of-requires
 answer-of-requires c κs = search needs
 
-compare-answer-requires : tie.Need-compare-answer-requires
-compare-answer-requires c κs = search needs
+compare-two-requires : tie.Need-compare-two-requires
+compare-two-requires c κs = search needs
 
 same-length : tie.Need-same-length
 same-length c =
@@ -100,7 +100,7 @@ same-length c =
     let a5 = a4 .before .before .before .before .before .before in
     let a6 = a5 .before .before .before .before .before .before in
     let a7 = a6 .before .before .before .before .before in
-    omega (arith, a0 .compare-answer .kept .0, a1 .read-numbers4 .kept .0, a2 .read-numbers3 .kept .0, a3 .read-floats2 .kept .0, a4 .read-numbers2 .kept .0, a5 .read-floats .kept .0, a6 .read-numbers .kept .0, a7 .read-start .kept .0)
+    omega (arith, a0 .compare-two .kept .0, a1 .read-numbers4 .kept .0, a2 .read-numbers3 .kept .0, a3 .read-floats2 .kept .0, a4 .read-numbers2 .kept .0, a5 .read-floats .kept .0, a6 .read-numbers .kept .0, a7 .read-start .kept .0)
 
 returns : tie.Need-returns
 returns c = search needs
@@ -136,6 +136,6 @@ replay-correction-spec =
     slice-aggregate-nearest-correction-6
     nearest-correction-requires
     answer-of-requires
-    compare-answer-requires
+    compare-two-requires
     same-length
     returns)

@@ -1,10 +1,10 @@
--- `replay::split::replay` is safe and ends: each length read is at most that of its array. Assumes nothing.
+-- `replay::pass::replay` is safe and ends: each length read is at most that of its array. Assumes nothing.
 use mathlib.Core.Path.{sym}
 use lib.Seq.{length-take-le}
 use native.Mathlib.Omega.{arith}
 use borrow.Author.Needs.{needs}
-use Rattle.replay.proofs.split.replay.Statement.{statement}
-use Rattle.replay.proofs.split.replay.Tie as tie
+use Rattle.replay.proofs.pass.replay.Statement.{statement}
+use Rattle.replay.proofs.pass.replay.Tie as tie
 
 read-counts-requires : tie.Need-read-counts-requires
 read-counts-requires c κs = search needs
