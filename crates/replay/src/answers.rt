@@ -1,4 +1,5 @@
 // The answer of a call as the list has it, and its comparison.
+ghost use Rattle.replay.specs.Compared.{Remembers};
 use crate::cells;
 use crate::words;
 use compress::Refusal;
@@ -42,25 +43,33 @@ pub fn told(first: u64, second: u64, third: u64) -> Answer {
 }
 
 // Compares an answer that has one value.
-pub fn compare_one(buf: &mut [u8], p: Place, a: Answer) -> Place {
+pub fn compare_one(buf: &mut [u8], p: Place, a: Answer) -> Place
+    ensures { λ r. ⌜ Remembers p r ⌝ }
+{
     let number = words::compare(buf, p, a.number);
     words::compare(buf, number, a.first)
 }
 
 // Compares an answer that has two values.
-pub fn compare_two(buf: &mut [u8], p: Place, a: Answer) -> Place {
+pub fn compare_two(buf: &mut [u8], p: Place, a: Answer) -> Place
+    ensures { λ r. ⌜ Remembers p r ⌝ }
+{
     let first = compare_one(buf, p, a);
     words::compare(buf, first, a.second)
 }
 
 // Compares an answer that has three values.
-pub fn compare_three(buf: &mut [u8], p: Place, a: Answer) -> Place {
+pub fn compare_three(buf: &mut [u8], p: Place, a: Answer) -> Place
+    ensures { λ r. ⌜ Remembers p r ⌝ }
+{
     let second = compare_two(buf, p, a);
     words::compare(buf, second, a.third)
 }
 
 // Compares an answer that has one value, and the two buffers of numbers that were lent to be written to.
-pub fn compare_left(buf: &mut [u8], p: Place, a: Answer, first: &[u32], second: &[u32]) -> Place {
+pub fn compare_left(buf: &mut [u8], p: Place, a: Answer, first: &[u32], second: &[u32]) -> Place
+    ensures { λ r. ⌜ Remembers p r ⌝ }
+{
     let told = compare_one(buf, p, a);
     let left = cells::compare_numbers(buf, told, first);
     cells::compare_numbers(buf, left, second)

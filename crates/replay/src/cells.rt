@@ -3,7 +3,7 @@ ghost use mathlib.Core.Path.{_≡_};
 ghost use Prim.Native.Nat.{_≤_};
 ghost use lib.ListN.{length};
 ghost use lib.Ieee.{binary64, nanBits};
-ghost use Rattle.replay.specs.Compared.{floatOf, hasPattern, Remembers};
+ghost use Rattle.replay.specs.Compared.{floatOf, hasPattern, Remembers, Tested};
 use crate::words;
 use words::Length;
 use words::Place;
@@ -148,6 +148,7 @@ pub fn compare_numbers(buf: &mut [u8], p: Place, cells: &[u32]) -> Place
 // Reads a word and compares a float with the one that has its bits.
 pub fn compare_float(buf: &mut [u8], p: Place, x: f64) -> Place
     ensures { λ r. ⌜ Remembers p r ⌝ }
+    ensures { λ r. ⌜ Tested (now (buf .exit)) (hasPattern x) p r ⌝ }
 {
     let w = words::next(buf, p);
     words::same_if(w.place, has_pattern(x, w.bits))
@@ -172,6 +173,7 @@ pub fn compare_floats(buf: &mut [u8], p: Place, cells: &[f64]) -> Place
 pub fn read_numbers(buf: &mut [u8], p: Place, cells: &mut [u32]) -> Length
     requires { ⌜ 64 ≤ length (now cells) ⌝ }
     ensures { λ r. ⌜ r .count ≤ length (now (cells .exit)) ⌝ }
+    ensures { λ r. ⌜ r .place .«is_same» ≡ p .«is_same» ⌝ }
 {
     let n = words::next_length(buf, p);
     let count = n.count;
@@ -183,6 +185,7 @@ pub fn read_numbers(buf: &mut [u8], p: Place, cells: &mut [u32]) -> Length
 pub fn read_floats(buf: &mut [u8], p: Place, cells: &mut [f64]) -> Length
     requires { ⌜ 64 ≤ length (now cells) ⌝ }
     ensures { λ r. ⌜ r .count ≤ length (now (cells .exit)) ⌝ }
+    ensures { λ r. ⌜ r .place .«is_same» ≡ p .«is_same» ⌝ }
 {
     let n = words::next_length(buf, p);
     let count = n.count;
@@ -194,6 +197,7 @@ pub fn read_floats(buf: &mut [u8], p: Place, cells: &mut [f64]) -> Length
 pub fn read_pair(buf: &mut [u8], p: Place, first: &mut [u32], second: &mut [u32]) -> Pair
     requires { ⌜ (64 ≤ length (now first)) × (64 ≤ length (now second)) ⌝ }
     ensures { λ r. ⌜ (r .first ≤ length (now (first .exit))) × (r .second ≤ length (now (second .exit))) ⌝ }
+    ensures { λ r. ⌜ r .place .«is_same» ≡ p .«is_same» ⌝ }
 {
     let a = read_numbers(buf, p, first);
     let b = read_numbers(buf, a.place, second);
@@ -211,6 +215,7 @@ pub fn read_pair(buf: &mut [u8], p: Place, first: &mut [u32], second: &mut [u32]
 pub fn read_table(buf: &mut [u8], p: Place, numbers: &mut [u32], floats: &mut [f64]) -> Table
     requires { ⌜ (64 ≤ length (now numbers)) × (64 ≤ length (now floats)) ⌝ }
     ensures { λ r. ⌜ (r .numbers ≤ length (now (numbers .exit))) × (r .floats ≤ length (now (floats .exit))) ⌝ }
+    ensures { λ r. ⌜ r .place .«is_same» ≡ p .«is_same» ⌝ }
 {
     let a = read_numbers(buf, p, numbers);
     let b = read_floats(buf, a.place, floats);

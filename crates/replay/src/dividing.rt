@@ -1,4 +1,5 @@
 // Replays one stored call of split_boundaries_by_divisor.
+ghost use Rattle.replay.specs.Compared.{Remembers};
 use crate::answers;
 use crate::cells;
 use crate::words;
@@ -51,13 +52,15 @@ fn read_counts(buf: &mut [u8], p: Place) -> Counts {
 fn compare(
     buf: &mut [u8],
     p: Place,
-    a: Answer,
+    b: Boundaries,
     edge_numbers: &[u32],
     edge_floats: &[f64],
     uses: &[u32],
     lengths: &[u32],
-) -> Place {
-    let told = answers::compare_three(buf, p, a);
+) -> Place
+    ensures { λ r. ⌜ Remembers p r ⌝ }
+{
+    let told = answers::compare_three(buf, p, answer_of(b));
     let edges = cells::compare_table(buf, told, edge_numbers, edge_floats);
     let left = cells::compare_numbers(buf, edges, uses);
     cells::compare_numbers(buf, left, lengths)
@@ -97,15 +100,7 @@ fn replay_filled(
         c.divisor,
         c.surface,
     );
-    compare(
-        buf,
-        p,
-        answer_of(divided),
-        edge_numbers,
-        edge_floats,
-        uses,
-        lengths,
-    )
+    compare(buf, p, divided, edge_numbers, edge_floats, uses, lengths)
 }
 
 // Reads the divisor and the buffers for the wires that are answered, and replays the call.

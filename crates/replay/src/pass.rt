@@ -1,4 +1,5 @@
 // Replays one stored call of split_closed_edges.
+ghost use Rattle.replay.specs.Compared.{Remembers};
 use crate::answers;
 use crate::cells;
 use crate::words;
@@ -67,7 +68,9 @@ pub fn compare(
     edge_floats: &[f64],
     uses: &[u32],
     lengths: &[u32],
-) -> Place {
+) -> Place
+    ensures { λ r. ⌜ Remembers p r ⌝ }
+{
     let told = answers::compare_three(buf, p, answer_of(s));
     let p1 = cells::compare_table(buf, told, vertex_numbers, vertex_floats);
     let p2 = cells::compare_table(buf, p1, edge_numbers, edge_floats);

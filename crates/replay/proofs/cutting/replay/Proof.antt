@@ -46,43 +46,43 @@ read-floats-requires : tie.Need-read-floats-requires
 read-floats-requires c κs = search needs
 
 array-borrow-prefix-vertex-numbers : tie.Need-array-borrow-prefix-vertex-numbers
-array-borrow-prefix-vertex-numbers c = c .before .before .before .before .before .before .before .before .before .before .before .before .before .before .before .before .before .before .before .before .before .before .before .before .before .before .before .read-table .ensures .0
+array-borrow-prefix-vertex-numbers c = c .before .before .before .before .before .before .before .before .before .before .before .before .before .before .before .before .before .before .before .before .before .before .before .before .before .before .before .read-table .ensures .0 .0
 
 slice-aggregate-replay-filled : tie.Need-slice-aggregate-replay-filled
 slice-aggregate-replay-filled c = sym (length-take-le _ _ (array-borrow-prefix-vertex-numbers (c .before)))
 
 array-borrow-prefix-vertex-floats : tie.Need-array-borrow-prefix-vertex-floats
-array-borrow-prefix-vertex-floats c = c .before .before .before .before .before .before .before .before .before .before .before .before .before .before .before .before .before .before .before .before .before .before .before .before .before .before .before .before .read-table .ensures .1
+array-borrow-prefix-vertex-floats c = c .before .before .before .before .before .before .before .before .before .before .before .before .before .before .before .before .before .before .before .before .before .before .before .before .before .before .before .before .read-table .ensures .0 .1
 
 slice-aggregate-replay-filled-2 : tie.Need-slice-aggregate-replay-filled-2
 slice-aggregate-replay-filled-2 c = sym (length-take-le _ _ (array-borrow-prefix-vertex-floats (c .before)))
 
 array-borrow-prefix-edge-numbers : tie.Need-array-borrow-prefix-edge-numbers
-array-borrow-prefix-edge-numbers c = search needs
+array-borrow-prefix-edge-numbers c = c .before .before .before .before .before .before .before .before .before .before .before .before .before .before .before .before .before .before .before .before .before .read-table2 .ensures .0 .0
 
 slice-aggregate-replay-filled-3 : tie.Need-slice-aggregate-replay-filled-3
 slice-aggregate-replay-filled-3 c = sym (length-take-le _ _ (array-borrow-prefix-edge-numbers (c .before)))
 
 array-borrow-prefix-edge-floats : tie.Need-array-borrow-prefix-edge-floats
-array-borrow-prefix-edge-floats c = search needs
+array-borrow-prefix-edge-floats c = c .before .before .before .before .before .before .before .before .before .before .before .before .before .before .before .before .before .before .before .before .before .before .read-table2 .ensures .0 .1
 
 slice-aggregate-replay-filled-4 : tie.Need-slice-aggregate-replay-filled-4
 slice-aggregate-replay-filled-4 c = sym (length-take-le _ _ (array-borrow-prefix-edge-floats (c .before)))
 
 array-borrow-prefix-uses : tie.Need-array-borrow-prefix-uses
-array-borrow-prefix-uses c = search needs
+array-borrow-prefix-uses c = c .before .before .before .before .before .before .before .before .before .before .before .before .before .before .before .read-pair .ensures .0 .0
 
 slice-aggregate-replay-filled-5 : tie.Need-slice-aggregate-replay-filled-5
 slice-aggregate-replay-filled-5 c = sym (length-take-le _ _ (array-borrow-prefix-uses (c .before)))
 
 array-borrow-prefix-lengths : tie.Need-array-borrow-prefix-lengths
-array-borrow-prefix-lengths c = search needs
+array-borrow-prefix-lengths c = c .before .before .before .before .before .before .before .before .before .before .before .before .before .before .before .before .read-pair .ensures .0 .1
 
 slice-aggregate-replay-filled-6 : tie.Need-slice-aggregate-replay-filled-6
 slice-aggregate-replay-filled-6 c = sym (length-take-le _ _ (array-borrow-prefix-lengths (c .before)))
 
 array-share-prefix-cuts : tie.Need-array-share-prefix-cuts
-array-share-prefix-cuts c = search needs
+array-share-prefix-cuts c = c .before .before .before .before .before .before .before .before .before .before .read-floats .ensures .0
 
 slice-aggregate-replay-filled-7 : tie.Need-slice-aggregate-replay-filled-7
 slice-aggregate-replay-filled-7 c = sym (length-take-le _ _ (array-share-prefix-cuts (c .before)))

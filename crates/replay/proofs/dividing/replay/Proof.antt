@@ -37,37 +37,37 @@ read-pair-requires-2 : tie.Need-read-pair-requires-2
 read-pair-requires-2 c κs = search needs
 
 array-borrow-prefix-edge-numbers : tie.Need-array-borrow-prefix-edge-numbers
-array-borrow-prefix-edge-numbers c = search needs
+array-borrow-prefix-edge-numbers c = c .before .before .before .before .before .before .before .before .before .before .before .before .before .before .before .before .before .before .before .before .before .read-table .ensures .0 .0
 
 slice-aggregate-replay-wires : tie.Need-slice-aggregate-replay-wires
 slice-aggregate-replay-wires c = sym (length-take-le _ _ (array-borrow-prefix-edge-numbers (c .before)))
 
 array-borrow-prefix-edge-floats : tie.Need-array-borrow-prefix-edge-floats
-array-borrow-prefix-edge-floats c = search needs
+array-borrow-prefix-edge-floats c = c .before .before .before .before .before .before .before .before .before .before .before .before .before .before .before .before .before .before .before .before .before .before .read-table .ensures .0 .1
 
 slice-aggregate-replay-wires-2 : tie.Need-slice-aggregate-replay-wires-2
 slice-aggregate-replay-wires-2 c = sym (length-take-le _ _ (array-borrow-prefix-edge-floats (c .before)))
 
 array-share-prefix-face-uses : tie.Need-array-share-prefix-face-uses
-array-share-prefix-face-uses c = search needs
+array-share-prefix-face-uses c = c .before .before .before .before .before .before .before .before .before .before .before .before .before .before .before .read-pair .ensures .0 .0
 
 slice-aggregate-replay-wires-3 : tie.Need-slice-aggregate-replay-wires-3
 slice-aggregate-replay-wires-3 c = sym (length-take-le _ _ (array-share-prefix-face-uses (c .before)))
 
 array-share-prefix-face-lengths : tie.Need-array-share-prefix-face-lengths
-array-share-prefix-face-lengths c = search needs
+array-share-prefix-face-lengths c = c .before .before .before .before .before .before .before .before .before .before .before .before .before .before .before .before .read-pair .ensures .0 .1
 
 slice-aggregate-replay-wires-4 : tie.Need-slice-aggregate-replay-wires-4
 slice-aggregate-replay-wires-4 c = sym (length-take-le _ _ (array-share-prefix-face-lengths (c .before)))
 
 array-share-prefix-rebuilt-uses : tie.Need-array-share-prefix-rebuilt-uses
-array-share-prefix-rebuilt-uses c = search needs
+array-share-prefix-rebuilt-uses c = c .before .before .before .before .before .before .before .before .before .read-pair2 .ensures .0 .0
 
 slice-aggregate-replay-wires-5 : tie.Need-slice-aggregate-replay-wires-5
 slice-aggregate-replay-wires-5 c = sym (length-take-le _ _ (array-share-prefix-rebuilt-uses (c .before)))
 
 array-share-prefix-rebuilt-lengths : tie.Need-array-share-prefix-rebuilt-lengths
-array-share-prefix-rebuilt-lengths c = search needs
+array-share-prefix-rebuilt-lengths c = c .before .before .before .before .before .before .before .before .before .before .read-pair2 .ensures .0 .1
 
 slice-aggregate-replay-wires-6 : tie.Need-slice-aggregate-replay-wires-6
 slice-aggregate-replay-wires-6 c = sym (length-take-le _ _ (array-share-prefix-rebuilt-lengths (c .before)))

@@ -25,25 +25,25 @@ read-pair-requires : tie.Need-read-pair-requires
 read-pair-requires c κs = search needs
 
 array-share-prefix-divisor : tie.Need-array-share-prefix-divisor
-array-share-prefix-divisor c = search needs
+array-share-prefix-divisor c = c .before .before .before .before .before .before .before .before .before .before .before .before .before .before .before .read-table .ensures .0 .0
 
 slice-aggregate-replay-filled : tie.Need-slice-aggregate-replay-filled
 slice-aggregate-replay-filled c = sym (length-take-le _ _ (array-share-prefix-divisor (c .before)))
 
 array-share-prefix-points : tie.Need-array-share-prefix-points
-array-share-prefix-points c = search needs
+array-share-prefix-points c = c .before .before .before .before .before .before .before .before .before .before .before .before .before .before .before .before .read-table .ensures .0 .1
 
 slice-aggregate-replay-filled-2 : tie.Need-slice-aggregate-replay-filled-2
 slice-aggregate-replay-filled-2 c = sym (length-take-le _ _ (array-share-prefix-points (c .before)))
 
 array-borrow-prefix-uses : tie.Need-array-borrow-prefix-uses
-array-borrow-prefix-uses c = search needs
+array-borrow-prefix-uses c = c .before .before .before .before .before .before .before .before .before .read-pair .ensures .0 .0
 
 slice-aggregate-replay-filled-3 : tie.Need-slice-aggregate-replay-filled-3
 slice-aggregate-replay-filled-3 c = sym (length-take-le _ _ (array-borrow-prefix-uses (c .before)))
 
 array-borrow-prefix-lengths : tie.Need-array-borrow-prefix-lengths
-array-borrow-prefix-lengths c = search needs
+array-borrow-prefix-lengths c = c .before .before .before .before .before .before .before .before .before .before .read-pair .ensures .0 .1
 
 slice-aggregate-replay-filled-4 : tie.Need-slice-aggregate-replay-filled-4
 slice-aggregate-replay-filled-4 c = sym (length-take-le _ _ (array-borrow-prefix-lengths (c .before)))

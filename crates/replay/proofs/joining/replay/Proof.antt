@@ -37,37 +37,37 @@ read-pair-requires-2 : tie.Need-read-pair-requires-2
 read-pair-requires-2 c κs = search needs
 
 array-share-prefix-edge-numbers : tie.Need-array-share-prefix-edge-numbers
-array-share-prefix-edge-numbers c = search needs
+array-share-prefix-edge-numbers c = c .before .before .before .before .before .before .before .before .before .before .before .before .before .before .before .before .before .before .before .before .before .read-table .ensures .0 .0
 
 slice-aggregate-replay-filled : tie.Need-slice-aggregate-replay-filled
 slice-aggregate-replay-filled c = sym (length-take-le _ _ (array-share-prefix-edge-numbers (c .before)))
 
 array-share-prefix-edge-floats : tie.Need-array-share-prefix-edge-floats
-array-share-prefix-edge-floats c = search needs
+array-share-prefix-edge-floats c = c .before .before .before .before .before .before .before .before .before .before .before .before .before .before .before .before .before .before .before .before .before .before .read-table .ensures .0 .1
 
 slice-aggregate-replay-filled-2 : tie.Need-slice-aggregate-replay-filled-2
 slice-aggregate-replay-filled-2 c = sym (length-take-le _ _ (array-share-prefix-edge-floats (c .before)))
 
 array-share-prefix-first : tie.Need-array-share-prefix-first
-array-share-prefix-first c = search needs
+array-share-prefix-first c = c .before .before .before .before .before .before .before .before .before .before .before .before .before .before .before .read-pair .ensures .0 .0
 
 slice-aggregate-replay-filled-3 : tie.Need-slice-aggregate-replay-filled-3
 slice-aggregate-replay-filled-3 c = sym (length-take-le _ _ (array-share-prefix-first (c .before)))
 
 array-share-prefix-second : tie.Need-array-share-prefix-second
-array-share-prefix-second c = search needs
+array-share-prefix-second c = c .before .before .before .before .before .before .before .before .before .before .before .before .before .before .before .before .read-pair .ensures .0 .1
 
 slice-aggregate-replay-filled-4 : tie.Need-slice-aggregate-replay-filled-4
 slice-aggregate-replay-filled-4 c = sym (length-take-le _ _ (array-share-prefix-second (c .before)))
 
 array-borrow-prefix-uses : tie.Need-array-borrow-prefix-uses
-array-borrow-prefix-uses c = search needs
+array-borrow-prefix-uses c = c .before .before .before .before .before .before .before .before .before .read-pair2 .ensures .0 .0
 
 slice-aggregate-replay-filled-5 : tie.Need-slice-aggregate-replay-filled-5
 slice-aggregate-replay-filled-5 c = sym (length-take-le _ _ (array-borrow-prefix-uses (c .before)))
 
 array-borrow-prefix-lengths : tie.Need-array-borrow-prefix-lengths
-array-borrow-prefix-lengths c = search needs
+array-borrow-prefix-lengths c = c .before .before .before .before .before .before .before .before .before .before .read-pair2 .ensures .0 .1
 
 slice-aggregate-replay-filled-6 : tie.Need-slice-aggregate-replay-filled-6
 slice-aggregate-replay-filled-6 c = sym (length-take-le _ _ (array-borrow-prefix-lengths (c .before)))

@@ -46,37 +46,37 @@ read-numbers-requires-4 : tie.Need-read-numbers-requires-4
 read-numbers-requires-4 c κs = search needs
 
 array-share-prefix-vertex-numbers : tie.Need-array-share-prefix-vertex-numbers
-array-share-prefix-vertex-numbers c = c .before .before .before .before .before .before .before .before .before .before .before .before .before .before .before .before .before .before .before .before .before .before .before .before .before .before .before .before .before .before .before .before .before .read-numbers .ensures
+array-share-prefix-vertex-numbers c = c .before .before .before .before .before .before .before .before .before .before .before .before .before .before .before .before .before .before .before .before .before .before .before .before .before .before .before .before .before .before .before .before .before .read-numbers .ensures .0
 
 slice-aggregate-nearest-correction : tie.Need-slice-aggregate-nearest-correction
 slice-aggregate-nearest-correction c = sym (length-take-le _ _ (array-share-prefix-vertex-numbers (c .before)))
 
 array-share-prefix-vertex-floats : tie.Need-array-share-prefix-vertex-floats
-array-share-prefix-vertex-floats c = c .before .before .before .before .before .before .before .before .before .before .before .before .before .before .before .before .before .before .before .before .before .before .before .before .before .before .before .before .read-floats .ensures
+array-share-prefix-vertex-floats c = c .before .before .before .before .before .before .before .before .before .before .before .before .before .before .before .before .before .before .before .before .before .before .before .before .before .before .before .before .read-floats .ensures .0
 
 slice-aggregate-nearest-correction-2 : tie.Need-slice-aggregate-nearest-correction-2
 slice-aggregate-nearest-correction-2 c = sym (length-take-le _ _ (array-share-prefix-vertex-floats (c .before)))
 
 array-share-prefix-edge-numbers : tie.Need-array-share-prefix-edge-numbers
-array-share-prefix-edge-numbers c = search needs
+array-share-prefix-edge-numbers c = c .before .before .before .before .before .before .before .before .before .before .before .before .before .before .before .before .before .before .before .before .before .before .before .read-numbers2 .ensures .0
 
 slice-aggregate-nearest-correction-3 : tie.Need-slice-aggregate-nearest-correction-3
 slice-aggregate-nearest-correction-3 c = sym (length-take-le _ _ (array-share-prefix-edge-numbers (c .before)))
 
 array-share-prefix-edge-floats : tie.Need-array-share-prefix-edge-floats
-array-share-prefix-edge-floats c = search needs
+array-share-prefix-edge-floats c = c .before .before .before .before .before .before .before .before .before .before .before .before .before .before .before .before .before .before .read-floats2 .ensures .0
 
 slice-aggregate-nearest-correction-4 : tie.Need-slice-aggregate-nearest-correction-4
 slice-aggregate-nearest-correction-4 c = sym (length-take-le _ _ (array-share-prefix-edge-floats (c .before)))
 
 array-share-prefix-first : tie.Need-array-share-prefix-first
-array-share-prefix-first c = search needs
+array-share-prefix-first c = c .before .before .before .before .before .before .before .before .before .before .before .before .before .read-numbers3 .ensures .0
 
 slice-aggregate-nearest-correction-5 : tie.Need-slice-aggregate-nearest-correction-5
 slice-aggregate-nearest-correction-5 c = sym (length-take-le _ _ (array-share-prefix-first (c .before)))
 
 array-share-prefix-second : tie.Need-array-share-prefix-second
-array-share-prefix-second c = search needs
+array-share-prefix-second c = c .before .before .before .before .before .before .before .before .read-numbers4 .ensures .0
 
 slice-aggregate-nearest-correction-6 : tie.Need-slice-aggregate-nearest-correction-6
 slice-aggregate-nearest-correction-6 c = sym (length-take-le _ _ (array-share-prefix-second (c .before)))
