@@ -2,7 +2,7 @@
 //! bound, past it or so large that it wraps, and causes of a refusal that
 //! chance seldom makes.
 
-use super::make::{draw, is_small, left_words, put_call, MOST_IN_ALL};
+use super::make::{draw, is_new, is_small, left_words, put_call, MOST_IN_ALL};
 use crate::calls::cut_edge::CutEdge;
 use crate::calls::join_wires::JoinWires;
 use crate::calls::split_wires::SplitWires;
@@ -63,6 +63,7 @@ fn put_changed<I: Families>(
     changes: &[Change<I>],
     made: fn(&mut Random) -> I,
 ) {
+    let is_new = is_new();
     let mut index = 0;
     for (answer, change) in changes {
         let changed = |random: &mut Random, _| loop {
@@ -75,7 +76,7 @@ fn put_changed<I: Families>(
         while left > 0 {
             let (input, expected) = draw(GROUP + I::NUMBER, index, &changed);
             index += 1;
-            if expected.answer == *answer && is_small(&input, MOST_IN_ALL) {
+            if expected.answer == *answer && is_small(&input, MOST_IN_ALL) && is_new(&input) {
                 left -= 1;
                 put_call(words, &input);
                 words.extend(left_words(&expected));

@@ -159,26 +159,26 @@ pub fn make() -> Vec<u8> {
 /// Adds the first list: calls as they are.
 fn put_calls(words: &mut Vec<u64>) {
     store(words, 99, &OF_PASS, pass, &is_no_worked_pass);
-    store(words, 2, &OF_NUMBERS, any::<Unwrap>, &is_new());
-    store(words, 3, &OF_NUMBERS, any::<NearestCopy>, &is_new());
+    store(words, 2, &OF_NUMBERS, any::<Unwrap>, &|_| true);
+    store(words, 3, &OF_NUMBERS, any::<NearestCopy>, &|_| true);
     for other in other_copies() {
         store(words, 10, &OF_OTHERS, any::<NearestCopy>, &tells(other));
     }
-    store(words, 4, &OF_KINDS, any::<WireEnds>, &is_new());
-    store(words, 5, &OF_SORTING, any::<SortWires>, &is_new());
-    store(words, 6, &OF_ENDS, ends, &is_new());
+    store(words, 4, &OF_KINDS, any::<WireEnds>, &|_| true);
+    store(words, 5, &OF_SORTING, any::<SortWires>, &|_| true);
+    store(words, 6, &OF_ENDS, ends, &|_| true);
     for other in other_distances() {
         store(words, 8, &OF_OTHERS, ends, &tells(other));
     }
-    store(words, 7, &OF_SEARCH, search, &is_new());
+    store(words, 7, &OF_SEARCH, search, &|_| true);
     for other in other_distances() {
         store(words, 9, &OF_OTHERS, search, &tells(other));
     }
     store(words, 11, &[(8, 8)], search, &tells(past_end_last()));
     store(words, 12, &[(5, 8)], search, &tells(pending_first()));
-    store(words, 13, &OF_CUT, cut, &is_new());
-    store(words, 14, &OF_JOIN, join, &is_new());
-    store(words, 15, &OF_SPLIT, split, &is_new());
+    store(words, 13, &OF_CUT, cut, &|_| true);
+    store(words, 14, &OF_JOIN, join, &|_| true);
+    store(words, 15, &OF_SPLIT, split, &|_| true);
     store(words, 16, &OF_SEVERAL, split, &has_wires_and_seams);
     store(words, 17, &[(2, 6)], split, &tells(first_cause_met()));
     put_changed_calls(words);
@@ -214,7 +214,7 @@ pub(super) fn draw<I: Families>(
     (input, expected)
 }
 
-/// Adds calls until every quota is full.
+/// Adds short calls that are none of the named cases until every quota is full.
 fn store<I: Families>(
     words: &mut Vec<u64>,
     group: u64,
@@ -222,6 +222,7 @@ fn store<I: Families>(
     make: fn(&mut Random, u64) -> I,
     is_stored: &dyn Fn(&I) -> bool,
 ) {
+    let is_new = is_new();
     let (mut left, mut index) = (quotas.to_vec(), 0);
     while left.iter().any(|&(_, times)| times > 0) {
         let (input, expected) = draw(group, index, &make);
@@ -234,7 +235,7 @@ fn store<I: Families>(
                 ..=0 => MOST_IN_ALL,
                 _ => MOST_REFUSED,
             };
-            if *times > 0 && is_small(&input, most) && is_stored(&input) {
+            if *times > 0 && is_small(&input, most) && is_new(&input) && is_stored(&input) {
                 *times -= 1;
                 put_call(words, &input);
                 words.extend(left_words(&expected));
@@ -336,7 +337,7 @@ pub(super) fn is_small<I: Input>(input: &I, most: usize) -> bool {
 }
 
 /// Whether an input is none of the named cases.
-fn is_new<I: Families>() -> impl Fn(&I) -> bool {
+pub(super) fn is_new<I: Families>() -> impl Fn(&I) -> bool {
     let known = I::limits();
     move |input| !known.iter().any(|case| case.input == *input)
 }
