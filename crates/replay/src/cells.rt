@@ -3,7 +3,7 @@ ghost use mathlib.Core.Path.{_≡_};
 ghost use Prim.Native.Nat.{_≤_};
 ghost use lib.ListN.{length};
 ghost use lib.Ieee.{binary64, nanBits};
-ghost use Rattle.replay.specs.Compared.{floatOf, hasPattern, Remembers};
+ghost use Rattle.replay.specs.Compared.{floatOf, hasPattern, Remembers, Tested};
 use crate::words;
 use words::Length;
 use words::Place;
@@ -17,6 +17,20 @@ pub struct Number {
 // A float from the list, and the place past it.
 pub struct Real {
     pub value: f64,
+    pub place: Place,
+}
+
+// How long the two buffers of a table are, and the place past them.
+pub struct Table {
+    pub numbers: usize,
+    pub floats: usize,
+    pub place: Place,
+}
+
+// How long two buffers of numbers are, and the place past them.
+pub struct Pair {
+    pub first: usize,
+    pub second: usize,
     pub place: Place,
 }
 
@@ -134,6 +148,7 @@ pub fn compare_numbers(buf: &mut [u8], p: Place, cells: &[u32]) -> Place
 // Reads a word and compares a float with the one that has its bits.
 pub fn compare_float(buf: &mut [u8], p: Place, x: f64) -> Place
     ensures { λ r. ⌜ Remembers p r ⌝ }
+    ensures { λ r. ⌜ Tested (now (buf .exit)) (hasPattern x) p r ⌝ }
 {
     let w = words::next(buf, p);
     words::same_if(w.place, has_pattern(x, w.bits))
@@ -158,6 +173,7 @@ pub fn compare_floats(buf: &mut [u8], p: Place, cells: &[f64]) -> Place
 pub fn read_numbers(buf: &mut [u8], p: Place, cells: &mut [u32]) -> Length
     requires { ⌜ 64 ≤ length (now cells) ⌝ }
     ensures { λ r. ⌜ r .count ≤ length (now (cells .exit)) ⌝ }
+    ensures { λ r. ⌜ r .place .«is_same» ≡ p .«is_same» ⌝ }
 {
     let n = words::next_length(buf, p);
     let count = n.count;
@@ -169,6 +185,7 @@ pub fn read_numbers(buf: &mut [u8], p: Place, cells: &mut [u32]) -> Length
 pub fn read_floats(buf: &mut [u8], p: Place, cells: &mut [f64]) -> Length
     requires { ⌜ 64 ≤ length (now cells) ⌝ }
     ensures { λ r. ⌜ r .count ≤ length (now (cells .exit)) ⌝ }
+    ensures { λ r. ⌜ r .place .«is_same» ≡ p .«is_same» ⌝ }
 {
     let n = words::next_length(buf, p);
     let count = n.count;
@@ -176,7 +193,39 @@ pub fn read_floats(buf: &mut [u8], p: Place, cells: &mut [f64]) -> Length
     Length { count, place }
 }
 
+// Reads two buffers of numbers, to the fronts of two buffers.
+pub fn read_pair(buf: &mut [u8], p: Place, first: &mut [u32], second: &mut [u32]) -> Pair
+    requires { ⌜ (64 ≤ length (now first)) × (64 ≤ length (now second)) ⌝ }
+    ensures { λ r. ⌜ (r .first ≤ length (now (first .exit))) × (r .second ≤ length (now (second .exit))) ⌝ }
+    ensures { λ r. ⌜ r .place .«is_same» ≡ p .«is_same» ⌝ }
+{
+    let a = read_numbers(buf, p, first);
+    let b = read_numbers(buf, a.place, second);
+    let place = b.place;
+    Pair {
+        first: a.count,
+        second: b.count,
+        place,
+    }
+}
+
 // ---- a table of rows: its numbers, and then its floats
+
+// Reads the two buffers of a table, to the fronts of two buffers.
+pub fn read_table(buf: &mut [u8], p: Place, numbers: &mut [u32], floats: &mut [f64]) -> Table
+    requires { ⌜ (64 ≤ length (now numbers)) × (64 ≤ length (now floats)) ⌝ }
+    ensures { λ r. ⌜ (r .numbers ≤ length (now (numbers .exit))) × (r .floats ≤ length (now (floats .exit))) ⌝ }
+    ensures { λ r. ⌜ r .place .«is_same» ≡ p .«is_same» ⌝ }
+{
+    let a = read_numbers(buf, p, numbers);
+    let b = read_floats(buf, a.place, floats);
+    let place = b.place;
+    Table {
+        numbers: a.count,
+        floats: b.count,
+        place,
+    }
+}
 
 // Fills the buffers of a table from the list.
 pub fn fill_table(buf: &mut [u8], p: Place, numbers: &mut [u32], floats: &mut [f64]) -> Place

@@ -1,4 +1,5 @@
 // Replays one stored call of those that are handed no buffer: get_mindiff, nearest_copy and boundary_type.
+ghost use Rattle.replay.specs.Compared.{Remembers};
 use crate::cells;
 use crate::words;
 use compress::Uv;
@@ -128,7 +129,9 @@ pub fn replay_unwrap(buf: &mut [u8], p: Place) -> Place {
 }
 
 // Compares the answer of nearest_copy with the list.
-fn compare_copy(buf: &mut [u8], p: Place, m: Moved) -> Place {
+fn compare_copy(buf: &mut [u8], p: Place, m: Moved) -> Place
+    ensures { λ r. ⌜ Remembers p r ⌝ }
+{
     let told = words::compare(buf, p, m.number);
     let u = cells::compare_float(buf, told, m.u);
     cells::compare_float(buf, u, m.v)

@@ -1,10 +1,11 @@
 // Replays one stored call of those that answer with two vertices: nearest_correction and find_non_simple_wire_divisor.
+use crate::answers;
 use crate::cells;
-use crate::split;
+use crate::pass;
 use crate::words;
+use answers::Answer;
 use nearest::Ends;
 use words::MOST;
-use words::NONE;
 use words::Place;
 
 // How many vertices and edges nearest_correction was told, how many uses the two stretches have, from which vertex it starts,
@@ -18,41 +19,12 @@ struct Start {
     place: Place,
 }
 
-// The answer as the list has it: 0 with the two vertices, or "none" or the number of the refusal with zeros.
-struct Answer {
-    number: u64,
-    v0: u64,
-    v1: u64,
-}
-
-fn refused(number: u32) -> Answer {
-    Answer {
-        number: number as u64,
-        v0: 0,
-        v1: 0,
-    }
-}
-
 fn answer_of(e: Ends) -> Answer {
     match e {
-        Ends::Between(v0, v1) => Answer {
-            number: 0,
-            v0: v0 as u64,
-            v1: v1 as u64,
-        },
-        Ends::NoEnds => Answer {
-            number: NONE,
-            v0: 0,
-            v1: 0,
-        },
-        Ends::EndsRefused(r) => refused(compress::refusal_number(r)),
+        Ends::Between(v0, v1) => answers::told(v0 as u64, v1 as u64, 0),
+        Ends::NoEnds => answers::none(),
+        Ends::EndsRefused(r) => answers::refused(r),
     }
-}
-
-fn compare_answer(buf: &mut [u8], p: Place, a: Answer) -> Place {
-    let number = words::compare(buf, p, a.number);
-    let v0 = words::compare(buf, number, a.v0);
-    words::compare(buf, v0, a.v1)
 }
 
 // Replays find_non_simple_wire_divisor, on buffers of just the lengths in the list. The place comes back past the record.
@@ -63,7 +35,7 @@ pub fn replay_divisor(buf: &mut [u8], p: Place) -> Place {
     let mut edge_floats = [0.0f64; MOST];
     let mut uses = [0u32; MOST];
     let mut lengths = [0u32; MOST];
-    let c = split::read_counts(buf, p);
+    let c = pass::read_counts(buf, p);
     let n1 = cells::read_numbers(buf, c.place, &mut vertex_numbers);
     let n2 = cells::read_floats(buf, n1.place, &mut vertex_floats);
     let n3 = cells::read_numbers(buf, n2.place, &mut edge_numbers);
@@ -87,7 +59,7 @@ pub fn replay_divisor(buf: &mut [u8], p: Place) -> Place {
         c.edges,
         c.wires,
     );
-    compare_answer(buf, n6.place, answer_of(ends))
+    answers::compare_two(buf, n6.place, answer_of(ends))
 }
 
 fn read_start(buf: &mut [u8], p: Place) -> Start {
@@ -141,5 +113,5 @@ pub fn replay_correction(buf: &mut [u8], p: Place) -> Place {
         s.second,
         s.v0,
     );
-    compare_answer(buf, n6.place, answer_of(ends))
+    answers::compare_two(buf, n6.place, answer_of(ends))
 }

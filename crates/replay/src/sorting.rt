@@ -1,44 +1,18 @@
 // Replays one stored call of sort_wires.
+use crate::answers;
 use crate::cells;
 use crate::words;
+use answers::Answer;
 use nearest::Sorted;
 use words::MOST;
-use words::NONE;
 use words::Place;
-
-// The answer as the list has it: 0 with how many wires are closed, or "none" or the number of the refusal with 0.
-struct Answer {
-    number: u64,
-    closed: u64,
-}
-
-fn refused(number: u32) -> Answer {
-    Answer {
-        number: number as u64,
-        closed: 0,
-    }
-}
 
 fn answer_of(s: Sorted) -> Answer {
     match s {
-        Sorted::Two(k) => Answer {
-            number: 0,
-            closed: k as u64,
-        },
-        Sorted::Nothing => Answer {
-            number: NONE,
-            closed: 0,
-        },
-        Sorted::Unsorted(r) => refused(compress::refusal_number(r)),
+        Sorted::Two(k) => answers::told(k as u64, 0, 0),
+        Sorted::Nothing => answers::none(),
+        Sorted::Unsorted(r) => answers::refused(r),
     }
-}
-
-// Compares the answer, and the two buffers that were lent to be written to, with the list.
-fn compare(buf: &mut [u8], p: Place, a: Answer, opens: &[u32], closed: &[u32]) -> Place {
-    let number = words::compare(buf, p, a.number);
-    let told = words::compare(buf, number, a.closed);
-    let left = cells::compare_numbers(buf, told, opens);
-    cells::compare_numbers(buf, left, closed)
 }
 
 // Makes the call on the three buffers, and compares its answer and what it left.
@@ -51,7 +25,7 @@ fn replay_filled(
     closed: &mut [u32],
 ) -> Place {
     let sorted = nearest::sort_wires(ends, wires, opens, closed);
-    compare(buf, p, answer_of(sorted), opens, closed)
+    answers::compare_left(buf, p, answer_of(sorted), opens, closed)
 }
 
 // Replays sort_wires, on buffers of just the lengths in the list. The place comes back past the record.

@@ -1,12 +1,14 @@
 // Reads the list from standard input, a word at a time.
 ghost use mathlib.Core.Path.{_≡_};
-ghost use mathlib.Core.Bool.{true, _&&_};
+ghost use mathlib.Core.Bool.{true, false, _&&_};
 ghost use Prim.Native.Nat.{_≤_};
-ghost use Rattle.replay.specs.Compared.{Remembers};
+ghost use lib.Dec.{eqb};
+ghost use lib.ListN.{getD};
+ghost use Rattle.replay.specs.Compared.{Remembers, Tested, halfAt, wordAt, wordBefore};
 use libc::STDIN_FILENO;
 
-// How many bytes are read at once: as many as the buffer that is lent has.
-const PIECE: usize = 65536;
+// The last place of a word in the buffer that is lent, which has 65536 bytes.
+const LAST: usize = 65528;
 
 // The most cells that a buffer of a call has.
 pub const MOST: usize = 64;
@@ -61,23 +63,16 @@ pub fn at_record(p: Place) -> Place
     }
 }
 
-// The same place, where the list is damaged unless a test holds.
-pub fn whole_if(p: Place, test: bool) -> Place
-    ensures { λ r. ⌜ r ≡ record { at = p .at; left = p .left; «is_whole» = p .«is_whole» && test; «is_same» = p .«is_same» } ⌝ }
+// The same place in a list that is damaged.
+pub fn damaged(p: Place) -> Place
+    ensures { λ r. ⌜ r ≡ record { at = p .at; left = p .left; «is_whole» = false; «is_same» = p .«is_same» } ⌝ }
 {
     Place {
         at: p.at,
         left: p.left,
-        is_whole: p.is_whole & test,
+        is_whole: false,
         is_same: p.is_same,
     }
-}
-
-// The same place in a list that is damaged.
-pub fn damaged(p: Place) -> Place
-    ensures { λ r. ⌜ r .«is_same» ≡ p .«is_same» ⌝ }
-{
-    whole_if(p, false)
 }
 
 // The same place, where what was compared differs unless a test holds.
@@ -95,34 +90,40 @@ pub fn same_if(p: Place, test: bool) -> Place
 
 // ---- bytes
 
-fn wide(b: u8) -> u64 {
+fn wide(b: u8) -> u64
+    ensures { λ r. ⌜ r ≡ b ⌝ }
+{
     b as u64
 }
 
 // The byte at i, or 0 past the end.
-fn byte(s: &[u8], i: usize) -> u64 {
-    if i < s.len() { wide(s[i]) } else { 0 }
-}
-
-// The first eight bytes as a number, the lowest first.
-fn first_word(s: &[u8]) -> u64 {
-    let low = byte(s, 0) | (byte(s, 1) << 8) | (byte(s, 2) << 16) | (byte(s, 3) << 24);
-    let high = byte(s, 4) | (byte(s, 5) << 8) | (byte(s, 6) << 16) | (byte(s, 7) << 24);
-    low | (high << 32)
-}
-
-// The eight bytes from a place on as a number, or 0 past the end.
-fn word_at(s: &[u8], at: usize) -> u64 {
-    if at <= s.len() {
-        first_word(&s[at..])
-    } else {
-        0
+fn byte(s: &[u8], i: usize) -> u64
+    ensures { λ r. ⌜ (r ≡ getD (now (s .entry)) i 0) × (r ≤ 255) ⌝ }
+{
+    if i < s.len() {
+        return wide(s[i]);
     }
+    0
 }
 
-// The place in the buffer of the word after the one at a place.
-fn past(at: usize) -> usize {
-    if at < PIECE { at + 8 } else { PIECE }
+// The four bytes from a place on as a number, the lowest first.
+fn half_at(s: &[u8], at: usize) -> u64
+    requires { ⌜ at ≤ 65532 ⌝ }
+    ensures { λ r. ⌜ (r ≡ halfAt (now (s .entry)) at) × (r ≤ 4294967295) ⌝ }
+{
+    let a = byte(s, at);
+    let b = byte(s, at + 1);
+    let c = byte(s, at + 2);
+    let d = byte(s, at + 3);
+    a + b * 0x100 + c * 0x1_0000 + d * 0x100_0000
+}
+
+// The eight bytes from a place on as a number, the lowest first.
+fn word_at(s: &[u8], at: usize) -> u64
+    requires { ⌜ at ≤ 65528 ⌝ }
+    ensures { λ r. ⌜ r ≡ wordAt (now (s .entry)) at ⌝ }
+{
+    half_at(s, at) + half_at(s, at + 4) * 0x1_0000_0000
 }
 
 // ---- words
@@ -143,21 +144,30 @@ fn refilled(buf: &mut [u8], p: Place) -> Place
     }
 }
 
-// The next word. Past the end of the input it is 0, and the list is damaged.
+// No word, at a place where the list is damaged.
+fn no_word(p: Place) -> Word
+    ensures { λ r. ⌜ (r .place .«is_same» ≡ p .«is_same») × (r .place .«is_whole» ≡ false) ⌝ }
+{
+    let place = damaged(p);
+    Word { bits: 0, place }
+}
+
+// The next word, which stands just before the place that comes back. Past the end of the input it is 0, and the list is damaged.
 pub fn next(buf: &mut [u8], p: Place) -> Word
     ensures { λ r. ⌜ r .place .«is_same» ≡ p .«is_same» ⌝ }
+    ensures { λ r. ⌜ (r .place .«is_whole» ≡ true → r .bits ≡ wordBefore (now (buf .exit)) (r .place)) ⌝ }
 {
     let q = refilled(buf, p);
     let at = q.at;
     let left = q.left;
     if left == 0 {
-        return Word {
-            bits: 0,
-            place: damaged(q),
-        };
+        return no_word(q);
+    }
+    if at > LAST {
+        return no_word(q);
     }
     let place = Place {
-        at: past(at),
+        at: at + 8,
         left: left - 1,
         is_whole: q.is_whole,
         is_same: q.is_same,
@@ -171,6 +181,7 @@ pub fn next(buf: &mut [u8], p: Place) -> Word
 // Reads the length of a buffer. A length above the most is taken as 0, and the list is damaged.
 pub fn next_length(buf: &mut [u8], p: Place) -> Length
     ensures { λ r. ⌜ r .count ≤ 64 ⌝ }
+    ensures { λ r. ⌜ r .place .«is_same» ≡ p .«is_same» ⌝ }
 {
     let w = next(buf, p);
     let place = w.place;
@@ -190,6 +201,7 @@ pub fn next_length(buf: &mut [u8], p: Place) -> Length
 // Reads a word and compares it.
 pub fn compare(buf: &mut [u8], p: Place, bits: u64) -> Place
     ensures { λ r. ⌜ Remembers p r ⌝ }
+    ensures { λ r. ⌜ Tested (now (buf .exit)) (λ w. eqb w bits) p r ⌝ }
 {
     let w = next(buf, p);
     same_if(w.place, w.bits == bits)

@@ -294,6 +294,11 @@ impl SplitWires {
         }
     }
 
+    /// A random split, of few uses where it shall be little.
+    pub fn made(random: &mut Random, little: bool) -> SplitWires {
+        made::made(random, little)
+    }
+
     /// The vertices on the divisor with their points. Only for an input that
     /// is not refused.
     fn places(&self) -> Vec<Place> {

@@ -1,9 +1,14 @@
 //! The making of the file, which always comes out the same.
 
+use super::altered::put_altered;
+use super::changed::put_changed_calls;
 use super::{lengths_first, MOST_CELLS};
+use crate::calls::cut_edge::CutEdge;
 use crate::calls::find_divisor::FindDivisor;
+use crate::calls::join_wires::JoinWires;
 use crate::calls::nearest_correction::NearestEnds;
 use crate::calls::sort_wires::SortWires;
+use crate::calls::split_wires::SplitWires;
 use crate::calls::Families;
 use crate::cells::Cells;
 use crate::compare::{difference, Expected, Input, NONE};
@@ -16,7 +21,10 @@ use crate::shell::Lent;
 use crate::{limits, model};
 
 /// Most cells in the slices of a stored call together.
-const MOST_IN_ALL: usize = 120;
+pub(super) const MOST_IN_ALL: usize = 120;
+
+/// Most cells in the slices of a stored call together that is refused.
+const MOST_REFUSED: usize = 60;
 
 /// The seed of the file.
 const SEED: u64 = 0x6b61_7567;
@@ -69,8 +77,48 @@ const OF_SEARCH: [Quota; 9] = [
     (8, 60),
 ];
 
+/// How many calls of `cut_edge_by_intersections` are stored.
+const OF_CUT: [Quota; 8] = [
+    (0, 200),
+    (1, 30),
+    (2, 30),
+    (3, 30),
+    (4, 30),
+    (5, 30),
+    (6, 30),
+    (14, 30),
+];
+
+/// How many calls of `connect_open_boundaries` are stored.
+const OF_JOIN: [Quota; 9] = [
+    (0, 240),
+    (NONE, 60),
+    (1, 30),
+    (2, 30),
+    (3, 30),
+    (4, 20),
+    (5, 20),
+    (6, 40),
+    (15, 30),
+];
+
+/// How many calls of `split_boundaries_by_divisor` are stored.
+const OF_SPLIT: [Quota; 11] = [
+    (0, 120),
+    (1, 30),
+    (2, 20),
+    (3, 20),
+    (4, 20),
+    (5, 20),
+    (6, 40),
+    (9, 30),
+    (10, 30),
+    (11, 40),
+    (12, 40),
+];
+
 /// How many calls are stored at least, by the name of the call.
-pub const QUOTAS: [(&str, &[Quota]); 7] = [
+pub const QUOTAS: [(&str, &[Quota]); 10] = [
     (Lent::NAME, &OF_PASS),
     (Unwrap::NAME, &OF_NUMBERS),
     (NearestCopy::NAME, &OF_NUMBERS),
@@ -78,43 +126,95 @@ pub const QUOTAS: [(&str, &[Quota]); 7] = [
     (SortWires::NAME, &OF_SORTING),
     (NearestEnds::NAME, &OF_ENDS),
     (FindDivisor::NAME, &OF_SEARCH),
+    (CutEdge::NAME, &OF_CUT),
+    (JoinWires::NAME, &OF_JOIN),
+    (SplitWires::NAME, &OF_SPLIT),
 ];
 
 /// How many calls are stored to tell one other distance from the right one.
 const OF_OTHERS: [Quota; 1] = [(0, 8)];
 
-/// The file's bytes, always the same.
-pub fn make() -> Vec<u8> {
-    let mut words = Vec::new();
-    store(&mut words, 99, &OF_PASS, pass, &is_no_worked_pass);
-    store(&mut words, 2, &OF_NUMBERS, any::<Unwrap>, &is_new);
-    store(&mut words, 3, &OF_NUMBERS, any::<NearestCopy>, &is_new);
-    for other in other_copies() {
-        store(
-            &mut words,
-            10,
-            &OF_OTHERS,
-            any::<NearestCopy>,
-            &tells(other),
-        );
-    }
-    store(&mut words, 4, &OF_KINDS, any::<WireEnds>, &is_new);
-    store(&mut words, 5, &OF_SORTING, any::<SortWires>, &is_new);
-    store(&mut words, 6, &OF_ENDS, ends, &is_new);
-    for other in other_distances() {
-        store(&mut words, 8, &OF_OTHERS, ends, &tells(other));
-    }
-    store(&mut words, 7, &OF_SEARCH, search, &is_new);
-    for other in other_distances() {
-        store(&mut words, 9, &OF_OTHERS, search, &tells(other));
-    }
-    store(&mut words, 11, &[(8, 8)], search, &tells(past_end_last()));
-    store(&mut words, 12, &[(5, 8)], search, &tells(pending_first()));
-    words.push(0);
-    words.iter().flat_map(|word| word.to_le_bytes()).collect()
+/// How many splits into several wires along seams are stored.
+const OF_SEVERAL: [Quota; 1] = [(0, 100)];
+
+/// The words of both lists, always the same, without the 0 that ends each.
+pub fn lists() -> [Vec<u64>; 2] {
+    let (mut stored, mut altered) = (Vec::new(), Vec::new());
+    put_calls(&mut stored);
+    put_altered_calls(&mut altered);
+    [stored, altered]
 }
 
-/// Adds calls until every quota is full.
+/// The file of two such lists.
+pub fn file_of(lists: &[Vec<u64>; 2]) -> Vec<u8> {
+    let ended = lists.iter().flat_map(|list| list.iter().chain(&[0]));
+    ended.flat_map(|word| word.to_le_bytes()).collect()
+}
+
+/// The file's bytes.
+pub fn make() -> Vec<u8> {
+    file_of(&lists())
+}
+
+/// Adds the first list: calls as they are.
+fn put_calls(words: &mut Vec<u64>) {
+    store(words, 99, &OF_PASS, pass, &is_no_worked_pass);
+    store(words, 2, &OF_NUMBERS, any::<Unwrap>, &|_| true);
+    store(words, 3, &OF_NUMBERS, any::<NearestCopy>, &|_| true);
+    for other in other_copies() {
+        store(words, 10, &OF_OTHERS, any::<NearestCopy>, &tells(other));
+    }
+    store(words, 4, &OF_KINDS, any::<WireEnds>, &|_| true);
+    store(words, 5, &OF_SORTING, any::<SortWires>, &|_| true);
+    store(words, 6, &OF_ENDS, ends, &|_| true);
+    for other in other_distances() {
+        store(words, 8, &OF_OTHERS, ends, &tells(other));
+    }
+    store(words, 7, &OF_SEARCH, search, &|_| true);
+    for other in other_distances() {
+        store(words, 9, &OF_OTHERS, search, &tells(other));
+    }
+    store(words, 11, &[(8, 8)], search, &tells(past_end_last()));
+    store(words, 12, &[(5, 8)], search, &tells(pending_first()));
+    store(words, 13, &OF_CUT, cut, &|_| true);
+    store(words, 14, &OF_JOIN, join, &|_| true);
+    store(words, 15, &OF_SPLIT, split, &|_| true);
+    store(words, 16, &OF_SEVERAL, split, &has_wires_and_seams);
+    store(words, 17, &[(2, 6)], split, &tells(first_cause_met()));
+    put_changed_calls(words);
+}
+
+/// Adds the second list: altered records of all calls.
+fn put_altered_calls(words: &mut Vec<u64>) {
+    put_altered(words, pass);
+    put_altered(words, any::<Unwrap>);
+    put_altered(words, any::<NearestCopy>);
+    put_altered(words, any::<WireEnds>);
+    put_altered(words, any::<SortWires>);
+    put_altered(words, ends);
+    put_altered(words, search);
+    put_altered(words, cut);
+    put_altered(words, join);
+    put_altered(words, split);
+}
+
+/// An input of a group, and what the Rust says to it.
+pub(super) fn draw<I: Families>(
+    group: u64,
+    index: u64,
+    make: &dyn Fn(&mut Random, u64) -> I,
+) -> (I, Expected<I>) {
+    let input = make(&mut Random::new(SEED, group, index), index);
+    let expected = input.expected();
+    if expected.answer > 0 {
+        return (input, expected);
+    }
+    let input = tell_apart(&input);
+    let expected = input.expected();
+    (input, expected)
+}
+
+/// Adds short calls that are none of the named cases until every quota is full.
 fn store<I: Families>(
     words: &mut Vec<u64>,
     group: u64,
@@ -122,23 +222,23 @@ fn store<I: Families>(
     make: fn(&mut Random, u64) -> I,
     is_stored: &dyn Fn(&I) -> bool,
 ) {
+    let is_new = is_new();
     let (mut left, mut index) = (quotas.to_vec(), 0);
     while left.iter().any(|&(_, times)| times > 0) {
-        let mut random = Random::new(SEED, group, index);
-        let mut input = make(&mut random, index);
+        let (input, expected) = draw(group, index, &make);
         index += 1;
-        let mut expected = input.expected();
-        if expected.answer <= 0 {
-            input = tell_apart(&input);
-            expected = input.expected();
-        }
         let quota = left
             .iter_mut()
             .find(|(answer, _)| *answer == expected.answer);
         if let Some((_, times)) = quota {
-            if *times > 0 && is_small(&input) && is_stored(&input) {
+            let most = match expected.answer {
+                ..=0 => MOST_IN_ALL,
+                _ => MOST_REFUSED,
+            };
+            if *times > 0 && is_small(&input, most) && is_new(&input) && is_stored(&input) {
                 *times -= 1;
-                put_record(words, &input, &expected);
+                put_call(words, &input);
+                words.extend(left_words(&expected));
             }
         }
     }
@@ -181,6 +281,34 @@ fn search(random: &mut Random, index: u64) -> FindDivisor {
     }
 }
 
+/// A small shell with cuts, damaged every other time.
+fn cut(random: &mut Random, index: u64) -> CutEdge {
+    let sizes = inputs::little_sizes(random);
+    match index % 4 {
+        0 | 1 => CutEdge::made(random, sizes),
+        2 => CutEdge::damaged(random),
+        _ => CutEdge::noise(random),
+    }
+}
+
+/// A small join, damaged every other time.
+fn join(random: &mut Random, index: u64) -> JoinWires {
+    match index % 4 {
+        0 | 1 => JoinWires::made(random, true),
+        2 => JoinWires::damaged(random),
+        _ => any(random, index / 4),
+    }
+}
+
+/// A small split, damaged every other time.
+fn split(random: &mut Random, index: u64) -> SplitWires {
+    match index % 4 {
+        0 | 1 => SplitWires::made(random, true),
+        2 => SplitWires::damaged(random),
+        _ => any(random, index / 4),
+    }
+}
+
 /// A replay may hold all NaN patterns for one. In an input that is accepted
 /// such a float is no input, so it can as well be a number of its own.
 fn tell_apart<I: Input>(input: &I) -> I {
@@ -202,15 +330,21 @@ fn tell_apart<I: Input>(input: &I) -> I {
     I::put_together(&scalars, slices).expect("the same kinds")
 }
 
-/// Whether the slices are short.
-fn is_small<I: Input>(input: &I) -> bool {
+/// Whether the slices are short, and have at most so many cells together.
+pub(super) fn is_small<I: Input>(input: &I, most: usize) -> bool {
     let sizes: Vec<usize> = input.slices().iter().map(Cells::size).collect();
-    sizes.iter().all(|&size| size <= MOST_CELLS) && sizes.iter().sum::<usize>() <= MOST_IN_ALL
+    sizes.iter().all(|&size| size <= MOST_CELLS) && sizes.iter().sum::<usize>() <= most
 }
 
 /// Whether an input is none of the named cases.
-fn is_new<I: Families>(input: &I) -> bool {
-    !I::limits().iter().any(|case| case.input == *input)
+pub(super) fn is_new<I: Families>() -> impl Fn(&I) -> bool {
+    let known = I::limits();
+    move |input| !known.iter().any(|case| case.input == *input)
+}
+
+/// Whether a split makes several wires and seams.
+fn has_wires_and_seams(input: &SplitWires) -> bool {
+    input.divisor_count > 1 && input.expected().out[0] > 1
 }
 
 /// Implementations of the nearest copy that go through the copies with v
@@ -270,6 +404,13 @@ fn pending_first() -> Reference {
     other
 }
 
+/// Checks whose first cause that is met wins.
+fn first_cause_met() -> Reference {
+    let mut other = Reference::default();
+    other.tables.choose = |causes| causes.first().copied();
+    other
+}
+
 /// Whether an input tells another implementation from the right one.
 fn tells<I: Families>(other: Reference) -> impl Fn(&I) -> bool {
     move |input| difference(&other, input, &input.expected()).1.is_some()
@@ -284,8 +425,8 @@ fn is_no_worked_pass(input: &Lent) -> bool {
     input.tables.edges > 0 && !limits::worked().iter().any(worked)
 }
 
-/// Adds one record.
-fn put_record<I: Input>(words: &mut Vec<u64>, input: &I, expected: &Expected<I>) {
+/// Adds the number of a call and what it was handed.
+pub(super) fn put_call<I: Input>(words: &mut Vec<u64>, input: &I) {
     words.push(I::NUMBER);
     words.extend(input.scalars());
     let slices = input.slices();
@@ -298,17 +439,19 @@ fn put_record<I: Input>(words: &mut Vec<u64>, input: &I, expected: &Expected<I>)
         }
         words.extend(cells.words());
     }
-    words.push(i64::from(expected.answer) as u64);
+}
+
+/// What a call answered and left: the answer, the out values, and the slices
+/// that may be written to.
+pub(super) fn left_words<I: Input>(expected: &Expected<I>) -> Vec<u64> {
+    let mut words = vec![i64::from(expected.answer) as u64];
     let done = expected.answer == 0;
-    words.extend(
-        expected
-            .out
-            .iter()
-            .map(|&value| if done { value } else { 0 }),
-    );
+    let out = expected.out.iter();
+    words.extend(out.map(|&value| if done { value } else { 0 }));
     for (cells, lending) in expected.after.slices().iter().zip(I::SLICES) {
         if lending.written {
             words.extend(cells.words());
         }
     }
+    words
 }

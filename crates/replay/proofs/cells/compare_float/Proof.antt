@@ -1,5 +1,6 @@
--- `replay::cells::compare_float` meets its contract: a difference met is not forgotten. Assumes nothing.
-use mathlib.Core.Path.{sym, _∙_}
+-- `replay::cells::compare_float` meets its contract: a difference met is not forgotten, and the word is the one that was read. Assumes nothing.
+use mathlib.Core.Path.{sym, ap, _∙_}
+use Rattle.replay.specs.declared.words.Place.{Place}
 use borrow.Author.Needs.{needs}
 use Rattle.replay.proofs.cells.compare_float.Statement.{statement}
 use Rattle.replay.proofs.cells.compare_float.Tie as tie
@@ -17,7 +18,16 @@ same-length : tie.Need-same-length
 same-length c = search needs
 
 returns : tie.Need-returns
-returns c = λ h. sym (c .before .before .before .before .next .ensures) ∙ c .same-if .ensures .1 h
+returns c = (
+  λ h. sym (c .before .before .before .before .next .ensures .0) ∙ c .same-if .ensures .1 h,
+  λ h.
+      let said = c .same-if .ensures .0 in
+      let place = ap (λ (q : Place). q .at) said in
+      let same = ap (λ (q : Place). q .«is_same») said in
+      let word = c .before .before .before .before .next .ensures .1 (sym (ap (λ (q : Place). q .«is_whole») said) ∙ h) in
+      let before = c .before .before .before .before .next .ensures .0 in
+      cc (c .before .has-pattern .ensures),
+)
 
 pub compare-float-spec : {M : Type 1} → statement M
 compare-float-spec =

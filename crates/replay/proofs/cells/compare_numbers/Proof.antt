@@ -35,7 +35,7 @@ loop-less : tie.Need-loop-less Inv-loop μ-loop
 loop-less c = search needs
 
 loop-again : tie.Need-loop-again Inv-loop μ-loop
-loop-again c = (search needs, search needs, λ h. c .before .before .before .before .before .before .before .loop .inv .2 (c .before .before .compare .ensures h))
+loop-again c = (search needs, search needs, λ h. c .before .before .before .before .before .before .before .loop .inv .2 (c .before .before .compare .ensures .0 h))
 
 same-length : tie.Need-same-length Inv-loop μ-loop
 same-length c = search needs

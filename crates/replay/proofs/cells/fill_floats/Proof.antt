@@ -36,7 +36,7 @@ loop-less : tie.Need-loop-less Inv-loop μ-loop
 loop-less c = simp length-set (omega arith)
 
 loop-again : tie.Need-loop-again Inv-loop μ-loop
-loop-again c = (simp length-set (omega arith), simp length-set (omega arith), search needs, c .before .before .before .before .next .ensures ∙ c .before .before .before .before .before .before .before .loop .inv .3)
+loop-again c = (simp length-set (omega arith), simp length-set (omega arith), search needs, c .before .before .before .before .next .ensures .0 ∙ c .before .before .before .before .before .before .before .loop .inv .3)
 
 same-length : tie.Need-same-length Inv-loop μ-loop
 same-length c = search needs

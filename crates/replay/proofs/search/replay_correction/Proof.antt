@@ -46,37 +46,37 @@ read-numbers-requires-4 : tie.Need-read-numbers-requires-4
 read-numbers-requires-4 c κs = search needs
 
 array-share-prefix-vertex-numbers : tie.Need-array-share-prefix-vertex-numbers
-array-share-prefix-vertex-numbers c = c .before .before .before .before .before .before .before .before .before .before .before .before .before .before .before .before .before .before .before .before .before .before .before .before .before .before .before .before .before .before .before .before .before .read-numbers .ensures
+array-share-prefix-vertex-numbers c = c .before .before .before .before .before .before .before .before .before .before .before .before .before .before .before .before .before .before .before .before .before .before .before .before .before .before .before .before .before .before .before .before .before .read-numbers .ensures .0
 
 slice-aggregate-nearest-correction : tie.Need-slice-aggregate-nearest-correction
 slice-aggregate-nearest-correction c = sym (length-take-le _ _ (array-share-prefix-vertex-numbers (c .before)))
 
 array-share-prefix-vertex-floats : tie.Need-array-share-prefix-vertex-floats
-array-share-prefix-vertex-floats c = c .before .before .before .before .before .before .before .before .before .before .before .before .before .before .before .before .before .before .before .before .before .before .before .before .before .before .before .before .read-floats .ensures
+array-share-prefix-vertex-floats c = c .before .before .before .before .before .before .before .before .before .before .before .before .before .before .before .before .before .before .before .before .before .before .before .before .before .before .before .before .read-floats .ensures .0
 
 slice-aggregate-nearest-correction-2 : tie.Need-slice-aggregate-nearest-correction-2
 slice-aggregate-nearest-correction-2 c = sym (length-take-le _ _ (array-share-prefix-vertex-floats (c .before)))
 
 array-share-prefix-edge-numbers : tie.Need-array-share-prefix-edge-numbers
-array-share-prefix-edge-numbers c = search needs
+array-share-prefix-edge-numbers c = c .before .before .before .before .before .before .before .before .before .before .before .before .before .before .before .before .before .before .before .before .before .before .before .read-numbers2 .ensures .0
 
 slice-aggregate-nearest-correction-3 : tie.Need-slice-aggregate-nearest-correction-3
 slice-aggregate-nearest-correction-3 c = sym (length-take-le _ _ (array-share-prefix-edge-numbers (c .before)))
 
 array-share-prefix-edge-floats : tie.Need-array-share-prefix-edge-floats
-array-share-prefix-edge-floats c = search needs
+array-share-prefix-edge-floats c = c .before .before .before .before .before .before .before .before .before .before .before .before .before .before .before .before .before .before .read-floats2 .ensures .0
 
 slice-aggregate-nearest-correction-4 : tie.Need-slice-aggregate-nearest-correction-4
 slice-aggregate-nearest-correction-4 c = sym (length-take-le _ _ (array-share-prefix-edge-floats (c .before)))
 
 array-share-prefix-first : tie.Need-array-share-prefix-first
-array-share-prefix-first c = search needs
+array-share-prefix-first c = c .before .before .before .before .before .before .before .before .before .before .before .before .before .read-numbers3 .ensures .0
 
 slice-aggregate-nearest-correction-5 : tie.Need-slice-aggregate-nearest-correction-5
 slice-aggregate-nearest-correction-5 c = sym (length-take-le _ _ (array-share-prefix-first (c .before)))
 
 array-share-prefix-second : tie.Need-array-share-prefix-second
-array-share-prefix-second c = search needs
+array-share-prefix-second c = c .before .before .before .before .before .before .before .before .read-numbers4 .ensures .0
 
 slice-aggregate-nearest-correction-6 : tie.Need-slice-aggregate-nearest-correction-6
 slice-aggregate-nearest-correction-6 c = sym (length-take-le _ _ (array-share-prefix-second (c .before)))
@@ -87,8 +87,8 @@ nearest-correction-requires c κs = search needs
 answer-of-requires : tie.Need-answer-of-requires
 answer-of-requires c κs = search needs
 
-compare-answer-requires : tie.Need-compare-answer-requires
-compare-answer-requires c κs = search needs
+compare-two-requires : tie.Need-compare-two-requires
+compare-two-requires c κs = search needs
 
 same-length : tie.Need-same-length
 same-length c =
@@ -100,7 +100,7 @@ same-length c =
     let a5 = a4 .before .before .before .before .before .before in
     let a6 = a5 .before .before .before .before .before .before in
     let a7 = a6 .before .before .before .before .before in
-    omega (arith, a0 .compare-answer .kept .0, a1 .read-numbers4 .kept .0, a2 .read-numbers3 .kept .0, a3 .read-floats2 .kept .0, a4 .read-numbers2 .kept .0, a5 .read-floats .kept .0, a6 .read-numbers .kept .0, a7 .read-start .kept .0)
+    omega (arith, a0 .compare-two .kept .0, a1 .read-numbers4 .kept .0, a2 .read-numbers3 .kept .0, a3 .read-floats2 .kept .0, a4 .read-numbers2 .kept .0, a5 .read-floats .kept .0, a6 .read-numbers .kept .0, a7 .read-start .kept .0)
 
 returns : tie.Need-returns
 returns c = search needs
@@ -136,6 +136,6 @@ replay-correction-spec =
     slice-aggregate-nearest-correction-6
     nearest-correction-requires
     answer-of-requires
-    compare-answer-requires
+    compare-two-requires
     same-length
     returns)

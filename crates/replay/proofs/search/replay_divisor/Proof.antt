@@ -46,42 +46,42 @@ read-numbers-requires-4 : tie.Need-read-numbers-requires-4
 read-numbers-requires-4 c κs = search needs
 
 array-share-prefix-vertex-numbers : tie.Need-array-share-prefix-vertex-numbers
-array-share-prefix-vertex-numbers c = c .before .before .before .before .before .before .before .before .before .before .before .before .before .before .before .before .before .before .before .before .before .before .before .before .before .before .before .before .before .before .before .before .before .read-numbers .ensures
+array-share-prefix-vertex-numbers c = c .before .before .before .before .before .before .before .before .before .before .before .before .before .before .before .before .before .before .before .before .before .before .before .before .before .before .before .before .before .before .before .before .before .read-numbers .ensures .0
 
 slice-aggregate-find-non-simple-wire-divisor :
     tie.Need-slice-aggregate-find-non-simple-wire-divisor
 slice-aggregate-find-non-simple-wire-divisor c = sym (length-take-le _ _ (array-share-prefix-vertex-numbers (c .before)))
 
 array-share-prefix-vertex-floats : tie.Need-array-share-prefix-vertex-floats
-array-share-prefix-vertex-floats c = c .before .before .before .before .before .before .before .before .before .before .before .before .before .before .before .before .before .before .before .before .before .before .before .before .before .before .before .before .read-floats .ensures
+array-share-prefix-vertex-floats c = c .before .before .before .before .before .before .before .before .before .before .before .before .before .before .before .before .before .before .before .before .before .before .before .before .before .before .before .before .read-floats .ensures .0
 
 slice-aggregate-find-non-simple-wire-divisor-2 :
     tie.Need-slice-aggregate-find-non-simple-wire-divisor-2
 slice-aggregate-find-non-simple-wire-divisor-2 c = sym (length-take-le _ _ (array-share-prefix-vertex-floats (c .before)))
 
 array-share-prefix-edge-numbers : tie.Need-array-share-prefix-edge-numbers
-array-share-prefix-edge-numbers c = search needs
+array-share-prefix-edge-numbers c = c .before .before .before .before .before .before .before .before .before .before .before .before .before .before .before .before .before .before .before .before .before .before .before .read-numbers2 .ensures .0
 
 slice-aggregate-find-non-simple-wire-divisor-3 :
     tie.Need-slice-aggregate-find-non-simple-wire-divisor-3
 slice-aggregate-find-non-simple-wire-divisor-3 c = sym (length-take-le _ _ (array-share-prefix-edge-numbers (c .before)))
 
 array-share-prefix-edge-floats : tie.Need-array-share-prefix-edge-floats
-array-share-prefix-edge-floats c = search needs
+array-share-prefix-edge-floats c = c .before .before .before .before .before .before .before .before .before .before .before .before .before .before .before .before .before .before .read-floats2 .ensures .0
 
 slice-aggregate-find-non-simple-wire-divisor-4 :
     tie.Need-slice-aggregate-find-non-simple-wire-divisor-4
 slice-aggregate-find-non-simple-wire-divisor-4 c = sym (length-take-le _ _ (array-share-prefix-edge-floats (c .before)))
 
 array-share-prefix-uses : tie.Need-array-share-prefix-uses
-array-share-prefix-uses c = search needs
+array-share-prefix-uses c = c .before .before .before .before .before .before .before .before .before .before .before .before .before .read-numbers3 .ensures .0
 
 slice-aggregate-find-non-simple-wire-divisor-5 :
     tie.Need-slice-aggregate-find-non-simple-wire-divisor-5
 slice-aggregate-find-non-simple-wire-divisor-5 c = sym (length-take-le _ _ (array-share-prefix-uses (c .before)))
 
 array-share-prefix-lengths : tie.Need-array-share-prefix-lengths
-array-share-prefix-lengths c = search needs
+array-share-prefix-lengths c = c .before .before .before .before .before .before .before .before .read-numbers4 .ensures .0
 
 slice-aggregate-find-non-simple-wire-divisor-6 :
     tie.Need-slice-aggregate-find-non-simple-wire-divisor-6
@@ -93,8 +93,8 @@ find-non-simple-wire-divisor-requires c κs = search needs
 answer-of-requires : tie.Need-answer-of-requires
 answer-of-requires c κs = search needs
 
-compare-answer-requires : tie.Need-compare-answer-requires
-compare-answer-requires c κs = search needs
+compare-two-requires : tie.Need-compare-two-requires
+compare-two-requires c κs = search needs
 
 same-length : tie.Need-same-length
 same-length c =
@@ -106,7 +106,7 @@ same-length c =
     let a5 = a4 .before .before .before .before .before .before in
     let a6 = a5 .before .before .before .before .before .before in
     let a7 = a6 .before .before .before .before .before in
-    omega (arith, a0 .compare-answer .kept .0, a1 .read-numbers4 .kept .0, a2 .read-numbers3 .kept .0, a3 .read-floats2 .kept .0, a4 .read-numbers2 .kept .0, a5 .read-floats .kept .0, a6 .read-numbers .kept .0, a7 .read-counts .kept .0)
+    omega (arith, a0 .compare-two .kept .0, a1 .read-numbers4 .kept .0, a2 .read-numbers3 .kept .0, a3 .read-floats2 .kept .0, a4 .read-numbers2 .kept .0, a5 .read-floats .kept .0, a6 .read-numbers .kept .0, a7 .read-counts .kept .0)
 
 returns : tie.Need-returns
 returns c = search needs
@@ -142,6 +142,6 @@ replay-divisor-spec =
     slice-aggregate-find-non-simple-wire-divisor-6
     find-non-simple-wire-divisor-requires
     answer-of-requires
-    compare-answer-requires
+    compare-two-requires
     same-length
     returns)

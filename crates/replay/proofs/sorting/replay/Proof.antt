@@ -28,19 +28,19 @@ read-numbers-requires-2 : tie.Need-read-numbers-requires-2
 read-numbers-requires-2 c κs = search needs
 
 array-share-prefix-ends : tie.Need-array-share-prefix-ends
-array-share-prefix-ends c = search needs
+array-share-prefix-ends c = c .before .before .before .before .before .before .before .before .before .before .before .before .before .before .before .before .read-floats .ensures .0
 
 slice-aggregate-replay-filled : tie.Need-slice-aggregate-replay-filled
 slice-aggregate-replay-filled c = sym (length-take-le _ _ (array-share-prefix-ends (c .before)))
 
 array-borrow-prefix-opens : tie.Need-array-borrow-prefix-opens
-array-borrow-prefix-opens c = search needs
+array-borrow-prefix-opens c = c .before .before .before .before .before .before .before .before .before .before .before .read-numbers .ensures .0
 
 slice-aggregate-replay-filled-2 : tie.Need-slice-aggregate-replay-filled-2
 slice-aggregate-replay-filled-2 c = sym (length-take-le _ _ (array-borrow-prefix-opens (c .before)))
 
 array-borrow-prefix-closed : tie.Need-array-borrow-prefix-closed
-array-borrow-prefix-closed c = search needs
+array-borrow-prefix-closed c = c .before .before .before .before .before .before .read-numbers2 .ensures .0
 
 slice-aggregate-replay-filled-3 : tie.Need-slice-aggregate-replay-filled-3
 slice-aggregate-replay-filled-3 c = sym (length-take-le _ _ (array-borrow-prefix-closed (c .before)))

@@ -1,10 +1,10 @@
--- `replay::split::replay` is safe and ends: each length read is at most that of its array. Assumes nothing.
+-- `replay::pass::replay` is safe and ends: each length read is at most that of its array. Assumes nothing.
 use mathlib.Core.Path.{sym}
 use lib.Seq.{length-take-le}
 use native.Mathlib.Omega.{arith}
 use borrow.Author.Needs.{needs}
-use Rattle.replay.proofs.split.replay.Statement.{statement}
-use Rattle.replay.proofs.split.replay.Tie as tie
+use Rattle.replay.proofs.pass.replay.Statement.{statement}
+use Rattle.replay.proofs.pass.replay.Tie as tie
 
 read-counts-requires : tie.Need-read-counts-requires
 read-counts-requires c κs = search needs
@@ -28,40 +28,40 @@ next-length-requires-6 : tie.Need-next-length-requires-6
 next-length-requires-6 c κs = search needs
 
 array-borrow-prefix-vertex-numbers : tie.Need-array-borrow-prefix-vertex-numbers
-array-borrow-prefix-vertex-numbers c = c .before .before .before .before .before .before .before .before .before .before .before .before .before .before .before .before .before .before .before .before .before .before .before .next-length .ensures
+array-borrow-prefix-vertex-numbers c = c .before .before .before .before .before .before .before .before .before .before .before .before .before .before .before .before .before .before .before .before .before .before .before .next-length .ensures .0
 
 slice-aggregate-replay-lent : tie.Need-slice-aggregate-replay-lent
-slice-aggregate-replay-lent c = sym (length-take-le _ _ (c .before .before .before .before .before .before .before .before .before .before .before .before .before .before .before .before .before .before .before .before .before .before .before .before .next-length .ensures))
+slice-aggregate-replay-lent c = sym (length-take-le _ _ (array-borrow-prefix-vertex-numbers (c .before)))
 
 array-borrow-prefix-vertex-floats : tie.Need-array-borrow-prefix-vertex-floats
-array-borrow-prefix-vertex-floats c = search needs
+array-borrow-prefix-vertex-floats c = c .before .before .before .before .before .before .before .before .before .before .before .before .before .before .before .before .before .before .before .before .next-length2 .ensures .0
 
 slice-aggregate-replay-lent-2 : tie.Need-slice-aggregate-replay-lent-2
-slice-aggregate-replay-lent-2 c = sym (length-take-le _ _ (c .before .before .before .before .before .before .before .before .before .before .before .before .before .before .before .before .before .before .before .before .before .next-length2 .ensures))
+slice-aggregate-replay-lent-2 c = sym (length-take-le _ _ (array-borrow-prefix-vertex-floats (c .before)))
 
 array-borrow-prefix-edge-numbers : tie.Need-array-borrow-prefix-edge-numbers
-array-borrow-prefix-edge-numbers c = search needs
+array-borrow-prefix-edge-numbers c = c .before .before .before .before .before .before .before .before .before .before .before .before .before .before .before .before .before .next-length3 .ensures .0
 
 slice-aggregate-replay-lent-3 : tie.Need-slice-aggregate-replay-lent-3
-slice-aggregate-replay-lent-3 c = sym (length-take-le _ _ (c .before .before .before .before .before .before .before .before .before .before .before .before .before .before .before .before .before .before .next-length3 .ensures))
+slice-aggregate-replay-lent-3 c = sym (length-take-le _ _ (array-borrow-prefix-edge-numbers (c .before)))
 
 array-borrow-prefix-edge-floats : tie.Need-array-borrow-prefix-edge-floats
-array-borrow-prefix-edge-floats c = search needs
+array-borrow-prefix-edge-floats c = c .before .before .before .before .before .before .before .before .before .before .before .before .before .before .next-length4 .ensures .0
 
 slice-aggregate-replay-lent-4 : tie.Need-slice-aggregate-replay-lent-4
-slice-aggregate-replay-lent-4 c = sym (length-take-le _ _ (c .before .before .before .before .before .before .before .before .before .before .before .before .before .before .before .next-length4 .ensures))
+slice-aggregate-replay-lent-4 c = sym (length-take-le _ _ (array-borrow-prefix-edge-floats (c .before)))
 
 array-borrow-prefix-uses : tie.Need-array-borrow-prefix-uses
-array-borrow-prefix-uses c = search needs
+array-borrow-prefix-uses c = c .before .before .before .before .before .before .before .before .before .before .before .next-length5 .ensures .0
 
 slice-aggregate-replay-lent-5 : tie.Need-slice-aggregate-replay-lent-5
-slice-aggregate-replay-lent-5 c = sym (length-take-le _ _ (c .before .before .before .before .before .before .before .before .before .before .before .before .next-length5 .ensures))
+slice-aggregate-replay-lent-5 c = sym (length-take-le _ _ (array-borrow-prefix-uses (c .before)))
 
 array-borrow-prefix-lengths : tie.Need-array-borrow-prefix-lengths
-array-borrow-prefix-lengths c = search needs
+array-borrow-prefix-lengths c = c .before .before .before .before .before .before .before .before .next-length6 .ensures .0
 
 slice-aggregate-replay-lent-6 : tie.Need-slice-aggregate-replay-lent-6
-slice-aggregate-replay-lent-6 c = sym (length-take-le _ _ (c .before .before .before .before .before .before .before .before .before .next-length6 .ensures))
+slice-aggregate-replay-lent-6 c = sym (length-take-le _ _ (array-borrow-prefix-lengths (c .before)))
 
 replay-lent-requires : tie.Need-replay-lent-requires
 replay-lent-requires c κs = search needs

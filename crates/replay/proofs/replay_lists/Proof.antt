@@ -1,9 +1,9 @@
--- `replay::replay_list` is safe and ends: the measure is the number of turns that are left. Assumes nothing.
+-- `replay::replay_lists` is safe and ends: the measure is the number of turns that are left. Assumes nothing.
 use mathlib.Core.Path.{_≡_}
 use lib.ListN.{length}
 use borrow.Author.Needs.{needs}
-use Rattle.replay.proofs.replay_list.Statement.{statement}
-use Rattle.replay.proofs.replay_list.Tie as tie
+use Rattle.replay.proofs.replay_lists.Statement.{statement}
+use Rattle.replay.proofs.replay_lists.Tie as tie
 
 abbrev Inv-loop : tie.InvT-loop
 Inv-loop buf₀ run₀ turns₀ buf run turns = length buf ≡ length buf₀
@@ -41,8 +41,8 @@ same-length-2 c = search needs
 returns-2 : tie.Need-returns-2 Inv-loop μ-loop
 returns-2 c = search needs
 
-pub replay-list-spec : {M : Type 1} → statement M
-replay-list-spec =
+pub replay-lists-spec : {M : Type 1} → statement M
+replay-lists-spec =
     tie.close
     (tie.spec
     Inv-loop

@@ -1,6 +1,9 @@
 // Replays one stored call of split_closed_edges.
+ghost use Rattle.replay.specs.Compared.{Remembers};
+use crate::answers;
 use crate::cells;
 use crate::words;
+use answers::Answer;
 use split_closed_edges::Split;
 use words::MOST;
 use words::Place;
@@ -13,36 +16,14 @@ pub struct Counts {
     pub place: Place,
 }
 
-// The answer as the list has it: 0 with the three counts, or the number of the refusal with zeros.
-struct Answer {
-    number: u64,
-    vertices: u64,
-    edges: u64,
-    uses: u64,
-}
-
-fn refused(number: u32) -> Answer {
-    Answer {
-        number: number as u64,
-        vertices: 0,
-        edges: 0,
-        uses: 0,
-    }
-}
-
 fn answer_of(s: Split) -> Answer {
     match s {
         Split::Done {
             vertices,
             edges,
             uses,
-        } => Answer {
-            number: 0,
-            vertices: vertices as u64,
-            edges: edges as u64,
-            uses: uses as u64,
-        },
-        Split::Refused(r) => refused(compress::refusal_number(r)),
+        } => answers::told(vertices as u64, edges as u64, uses as u64),
+        Split::Refused(r) => answers::refused(r),
     }
 }
 
@@ -57,13 +38,6 @@ pub fn read_counts(buf: &mut [u8], p: Place) -> Counts {
         wires: wires.bits as usize,
         place,
     }
-}
-
-fn compare_answer(buf: &mut [u8], p: Place, a: Answer) -> Place {
-    let number = words::compare(buf, p, a.number);
-    let vertices = words::compare(buf, number, a.vertices);
-    let edges = words::compare(buf, vertices, a.edges);
-    words::compare(buf, edges, a.uses)
 }
 
 // Fills the six buffers from the list.
@@ -83,18 +57,22 @@ fn fill(
     cells::fill_numbers(buf, p3, lengths)
 }
 
-// Compares the six buffers with the list.
-fn compare(
+// Compares the answer and the six buffers with the list.
+pub fn compare(
     buf: &mut [u8],
     p: Place,
+    s: Split,
     vertex_numbers: &[u32],
     vertex_floats: &[f64],
     edge_numbers: &[u32],
     edge_floats: &[f64],
     uses: &[u32],
     lengths: &[u32],
-) -> Place {
-    let p1 = cells::compare_table(buf, p, vertex_numbers, vertex_floats);
+) -> Place
+    ensures { λ r. ⌜ Remembers p r ⌝ }
+{
+    let told = answers::compare_three(buf, p, answer_of(s));
+    let p1 = cells::compare_table(buf, told, vertex_numbers, vertex_floats);
     let p2 = cells::compare_table(buf, p1, edge_numbers, edge_floats);
     let p3 = cells::compare_numbers(buf, p2, uses);
     cells::compare_numbers(buf, p3, lengths)
@@ -123,10 +101,10 @@ fn replay_filled(
         c.edges,
         c.wires,
     );
-    let told = compare_answer(buf, p, answer_of(split));
     compare(
         buf,
-        told,
+        p,
+        split,
         vertex_numbers,
         vertex_floats,
         edge_numbers,
