@@ -181,7 +181,7 @@ fn vertex_row(numbers: &[u32], floats: &[f64], i: usize) -> u32
     lower(k, lower(c, vertex(v)))
 }
 
-// ---- rows without a cause: tests that only say yes or no. A table that passes them is not read again.
+// ---- the first pass: tests that only say yes or no. After a yes a table is not read again; after a no its rows tell the cause.
 
 // The number itself where it fits, else the largest that does.
 fn narrow(n: usize) -> u32
@@ -193,7 +193,7 @@ fn narrow(n: usize) -> u32
     n as u32
 }
 
-// Three comparisons: both ends are sized, since the lower is not below the bounds and the upper not above them.
+// Three comparisons: -1.0e15 is at most t0, t0 at most t1, t1 at most 1.0e15. So both are sized.
 fn is_range_sound(t0: f64, t1: f64) -> bool
     ensures { λ r. ⌜ (r ≡ true → rangeCause t0 t1 ≡ 0) ⌝ }
 {
