@@ -1,10 +1,13 @@
 // Causes 1 to 5 of document 01's table, for tables, wires and lone numbers: every input is checked, and the lowest number wins.
 // A cause is its number, and 0 is none. Each check answers for all numbers; what it answers is a definition of specs/Causes.
 ghost use mathlib.Core.Path.{_≡_};
-ghost use Prim.Native.Nat.{_+_, _*_, _/_, _≤_};
+ghost use mathlib.Core.Bool.{true};
+ghost use Prim.Native.Nat.{ℕ, _+_, _*_, _/_, _≤_};
 ghost use lib.Dec.{eqb};
 ghost use lib.ListN.{length, getD, take};
+ghost use lib.Ieee.{nan};
 ghost use Rattle.compress.specs.Records.{firstOf, lastOf};
+ghost use Rattle.compress.specs.Rows.{curveOf};
 ghost use Rattle.compress.specs.Wires.{total};
 ghost use Rattle.checks.specs.Causes.{when, lowerOf, lowestOf, countCause, kindCause, vertexNumberCause, edgeNumberCause, floatCause, rangeCause, parameterCause, periodCause, uvCause, curveCause, edgeCause, pointCause, vertexCause, curveKindCause, edgeRowCause, vertexRowCause, edgesCause, verticesCause, pendingCause, usesCause, wiresCause};
 use compress::Curve;
@@ -178,6 +181,150 @@ fn vertex_row(numbers: &[u32], floats: &[f64], i: usize) -> u32
     lower(k, lower(c, vertex(v)))
 }
 
+// ---- the first pass: tests that only say yes or no. After a yes a table is not read again; after a no its rows tell the cause.
+
+// The number itself where it fits, else the largest that does.
+fn narrow(n: usize) -> u32
+    ensures { λ r. ⌜ r ≤ n ⌝ }
+{
+    if n > 4294967295 {
+        return 4294967295;
+    }
+    n as u32
+}
+
+// Three comparisons: -1.0e15 is at most t0, t0 at most t1, t1 at most 1.0e15. So both are sized.
+fn is_range_sound(t0: f64, t1: f64) -> bool
+    ensures { λ r. ⌜ (r ≡ true → rangeCause t0 t1 ≡ 0) ⌝ }
+{
+    let above = t0 >= -1.0e15;
+    let ordered = t0 <= t1;
+    let under = t1 <= 1.0e15;
+    above & ordered & under
+}
+
+// A parameter of a sound range.
+fn is_parameter_sound(t0: f64, t1: f64, t: f64) -> bool
+    ensures { λ r. ⌜ (r ≡ true → rangeCause t0 t1 ≡ 0 → parameterCause t0 t1 t ≡ 0) ⌝ }
+{
+    let above = t0 <= t;
+    let under = t <= t1;
+    above & under
+}
+
+fn is_uv_sound(u: f64, v: f64) -> bool
+    ensures { λ r. ⌜ (r ≡ true → uvCause (record { u = u; v = v }) ≡ 0) ⌝ }
+{
+    floats::is_sized(u) & floats::is_sized(v)
+}
+
+fn is_point_sound(x: f64, y: f64, z: f64) -> bool
+    ensures { λ r. ⌜ (r ≡ true → pointCause x y z ≡ 0) ⌝ }
+{
+    floats::is_sized(x) & floats::is_sized(y) & floats::is_sized(z)
+}
+
+// A curve whose six floats begin at b.
+fn is_curve_sound(kind: u32, floats: &[f64], b: usize) -> bool
+    requires { ⌜ b + 6 ≤ length (now floats) ⌝ }
+    ensures { λ r. ⌜ (r ≡ true → (kind ≤ 1) × ((n : ℕ) → curveCause (curveOf kind n (record { u = getD (now (floats .entry)) b nan; v = getD (now (floats .entry)) (b + 1) nan }) (record { u = getD (now (floats .entry)) (b + 2) nan; v = getD (now (floats .entry)) (b + 3) nan }) (getD (now (floats .entry)) (b + 4) nan) (getD (now (floats .entry)) (b + 5) nan)) ≡ 0)) ⌝ }
+{
+    if !is_range_sound(floats[b + 4], floats[b + 5]) {
+        return false;
+    }
+    if kind == 0 {
+        return true;
+    }
+    if kind != 1 {
+        return false;
+    }
+    let p = is_uv_sound(floats[b], floats[b + 1]);
+    let q = is_uv_sound(floats[b + 2], floats[b + 3]);
+    p & q
+}
+
+// The edge of row i, between vertices of which there are at least `bound`.
+fn is_edge_sound(bound: u32, numbers: &[u32], floats: &[f64], i: usize) -> bool
+    requires { ⌜ (i * 4 + 4 ≤ length (now numbers)) × (i * 6 + 6 ≤ length (now floats)) ⌝ }
+    ensures { λ r. ⌜ (r ≡ true → (v : ℕ) → bound ≤ v → edgeRowCause v (now (numbers .entry)) (now (floats .entry)) i ≡ 0) ⌝ }
+{
+    let a = i * 4;
+    if numbers[a] >= bound {
+        return false;
+    }
+    if numbers[a + 1] >= bound {
+        return false;
+    }
+    is_curve_sound(numbers[a + 2], floats, i * 6)
+}
+
+fn is_vertex_sound(numbers: &[u32], floats: &[f64], i: usize) -> bool
+    requires { ⌜ (i * 3 + 3 ≤ length (now numbers)) × (i * 7 + 7 ≤ length (now floats)) ⌝ }
+    ensures { λ r. ⌜ (r ≡ true → vertexRowCause (now (numbers .entry)) (now (floats .entry)) i ≡ 0) ⌝ }
+{
+    let a = i * 3;
+    let b = i * 7;
+    if numbers[a] == 0 {
+        return is_point_sound(floats[b], floats[b + 1], floats[b + 2]);
+    }
+    if numbers[a] != 1 {
+        return false;
+    }
+    if !is_curve_sound(numbers[a + 1], floats, b) {
+        return false;
+    }
+    is_parameter_sound(floats[b + 4], floats[b + 5], floats[b + 6])
+}
+
+fn are_edges_sound(vertices: usize, numbers: &[u32], floats: &[f64], count: usize) -> bool
+    requires { ⌜ (count * 4 ≤ length (now numbers)) × (count * 6 ≤ length (now floats)) ⌝ }
+    ensures { λ r. ⌜ (r ≡ true → lowestOf (edgeRowCause vertices (now (numbers .entry)) (now (floats .entry))) count ≡ 0) ⌝ }
+{
+    let bound = narrow(vertices);
+    for i in 0..count {
+        if !is_edge_sound(bound, numbers, floats, i) {
+            return false;
+        }
+    }
+    true
+}
+
+fn are_vertices_sound(numbers: &[u32], floats: &[f64], count: usize) -> bool
+    requires { ⌜ (count * 3 ≤ length (now numbers)) × (count * 7 ≤ length (now floats)) ⌝ }
+    ensures { λ r. ⌜ (r ≡ true → lowestOf (vertexRowCause (now (numbers .entry)) (now (floats .entry))) count ≡ 0) ⌝ }
+{
+    for i in 0..count {
+        if !is_vertex_sound(numbers, floats, i) {
+            return false;
+        }
+    }
+    true
+}
+
+// No vertex is pending.
+fn are_given(numbers: &[u32], count: usize) -> bool
+    requires { ⌜ count * 3 ≤ length (now numbers) ⌝ }
+    ensures { λ r. ⌜ (r ≡ true → lowestOf (λ i. when (eqb (getD (now (numbers .entry)) (i * 3) 0) 1) 7) count ≡ 0) ⌝ }
+{
+    let mut given = true;
+    for i in 0..count {
+        given = given & (numbers[i * 3] != 1);
+    }
+    given
+}
+
+fn are_uses_sound(edges: usize, uses: &[u32], count: usize) -> bool
+    requires { ⌜ count ≤ length (now uses) ⌝ }
+    ensures { λ r. ⌜ (r ≡ true → usesCause edges (now (uses .entry)) count ≡ 0) ⌝ }
+{
+    let bound = narrow(edges);
+    let mut sound = true;
+    for i in 0..count {
+        sound = sound & (uses[i] / 2 < bound);
+    }
+    sound
+}
+
 // ---- tables
 
 fn edge_rows(vertices: usize, numbers: &[u32], floats: &[f64], count: usize) -> u32
@@ -203,6 +350,9 @@ pub fn edges(vertices: usize, numbers: &[u32], floats: &[f64], count: usize) -> 
     }
     if floats.len() < count * 6 {
         return 1;
+    }
+    if are_edges_sound(vertices, numbers, floats, count) {
+        return 0;
     }
     edge_rows(vertices, numbers, floats, count)
 }
@@ -231,6 +381,9 @@ pub fn vertices(numbers: &[u32], floats: &[f64], count: usize) -> u32
     if floats.len() < count * 7 {
         return 1;
     }
+    if are_vertices_sound(numbers, floats, count) {
+        return 0;
+    }
     vertex_rows(numbers, floats, count)
 }
 
@@ -256,6 +409,9 @@ pub fn pending(numbers: &[u32], count: usize) -> u32
     if numbers.len() < count * 3 {
         return 0;
     }
+    if are_given(numbers, count) {
+        return 0;
+    }
     pending_rows(numbers, count)
 }
 
@@ -273,8 +429,7 @@ pub fn total_uses(lengths: &[u32], count: usize) -> usize
     sum
 }
 
-// The first `count` uses, of a table of `edges` edges.
-pub fn use_rows(edges: usize, uses: &[u32], count: usize) -> u32
+fn use_causes(edges: usize, uses: &[u32], count: usize) -> u32
     requires { ⌜ count ≤ length (now uses) ⌝ }
     ensures { λ r. ⌜ r ≡ usesCause edges (now (uses .entry)) count ⌝ }
 {
@@ -283,6 +438,17 @@ pub fn use_rows(edges: usize, uses: &[u32], count: usize) -> u32
         least = lower(least, edge_number(edges, uses[i] / 2));
     }
     least
+}
+
+// The first `count` uses, of a table of `edges` edges.
+pub fn use_rows(edges: usize, uses: &[u32], count: usize) -> u32
+    requires { ⌜ count ≤ length (now uses) ⌝ }
+    ensures { λ r. ⌜ r ≡ usesCause edges (now (uses .entry)) count ⌝ }
+{
+    if are_uses_sound(edges, uses, count) {
+        return 0;
+    }
+    use_causes(edges, uses, count)
 }
 
 // The wires of a call whose wires lie in one slice, over a table of `edges` edges.
