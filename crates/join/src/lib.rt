@@ -122,6 +122,30 @@ fn lay_second(
 
 // The first open wire turned by i, the new wire turned to v0 behind it, all turned to v1, and the second open wire turned by j behind that.
 // The answer is the length, and 0 where v1 is not found.
+fn lay_through(
+    edge_numbers: &[u32],
+    edge_floats: &[f64],
+    first: &[u32],
+    i: usize,
+    second: &[u32],
+    j: usize,
+    wire: &[u32],
+    v0: u32,
+    v1: u32,
+    out: &mut [u32],
+    open: &mut [u32],
+) -> usize
+    requires { ⌜ (i ≤ length (now first)) × (j ≤ length (now second)) × (length (now first) + length (now wire) + length (now second) ≤ 1024) × (length (now out) ≡ 1024) ⌝ }
+    requires { ⌜ (Readable (now «edge_numbers») (now «edge_floats») (now first)) × (Readable (now «edge_numbers») (now «edge_floats») (now wire)) ⌝ }
+    requires { ⌜ (length (now first) + length (now wire) ≤ length (now «open»)) × (length (now «open») ≤ 1024) ⌝ }
+    ensures { λ r. ⌜ (laid r (now (out .exit)) ≡ closedBy (edgeAt (now («edge_numbers» .entry)) (now («edge_floats» .entry))) v1 (turned i (now (first .entry)) ++ turned (indexOf (edgeAt (now («edge_numbers» .entry)) (now («edge_floats» .entry))) v0 (now (wire .entry))) (now (wire .entry))) (turned j (now (second .entry)))) × (r ≤ 1024) ⌝ }
+{
+    lay_first(edge_numbers, edge_floats, first, i, wire, v0, open);
+    let n = first.len() + wire.len();
+    lay_second(edge_numbers, edge_floats, &open[..n], v1, second, j, out)
+}
+
+// The same, by way of an array of its own: a small one where that has room, since to zero it takes time.
 fn lay_joined(
     edge_numbers: &[u32],
     edge_floats: &[f64],
@@ -138,21 +162,49 @@ fn lay_joined(
     requires { ⌜ (Readable (now «edge_numbers») (now «edge_floats») (now first)) × (Readable (now «edge_numbers») (now «edge_floats») (now wire)) ⌝ }
     ensures { λ r. ⌜ (laid r (now (out .exit)) ≡ closedBy (edgeAt (now («edge_numbers» .entry)) (now («edge_floats» .entry))) v1 (turned i (now (first .entry)) ++ turned (indexOf (edgeAt (now («edge_numbers» .entry)) (now («edge_floats» .entry))) v0 (now (wire .entry))) (now (wire .entry))) (turned j (now (second .entry)))) × (r ≤ 1024) ⌝ }
 {
+    if first.len() + wire.len() <= 64 {
+        let mut open = [0u32; 64];
+        return lay_through(
+            edge_numbers,
+            edge_floats,
+            first,
+            i,
+            second,
+            j,
+            wire,
+            v0,
+            v1,
+            out,
+            &mut open,
+        );
+    }
     let mut open = [0u32; 1024];
-    lay_first(edge_numbers, edge_floats, first, i, wire, v0, &mut open);
-    let n = first.len() + wire.len();
-    lay_second(edge_numbers, edge_floats, &open[..n], v1, second, j, out)
+    lay_through(
+        edge_numbers,
+        edge_floats,
+        first,
+        i,
+        second,
+        j,
+        wire,
+        v0,
+        v1,
+        out,
+        &mut open,
+    )
 }
 
-// The wire w is replaced by `joined`, where there is room.
-fn replace_wire(
+// The wire w is replaced by `joined`, where there is room. What stands behind it is put aside meanwhile.
+fn replace_through(
     uses: &mut [u32],
     lengths: &mut [u32],
     wires: usize,
     w: usize,
     joined: &[u32],
+    behind: &mut [u32],
 ) -> Join
     requires { ⌜ (Lying (now uses) (now lengths) wires) × (w < wires) × (length (now joined) ≤ 1024) ⌝ }
+    requires { ⌜ (total (take wires (now lengths)) ≤ length (now behind)) ⌝ }
     ensures { λ r. ⌜ leavesJoin r (now (uses .exit)) (now (lengths .exit)) ≡ storedIn (now (uses .entry)) (now (lengths .entry)) (set (wiresOf (now (uses .entry)) (take wires (now (lengths .entry)))) w (now (joined .entry))) ⌝ }
 {
     let from = checks::total_uses(lengths, w);
@@ -163,12 +215,30 @@ fn replace_wire(
     if !compress::uses_fit(uses, count) {
         return Join::JoinRefused(Refusal::NoRoom);
     }
-    let mut behind = [0u32; 1024];
-    compress::copy(&uses[to..], rest, &mut behind);
+    compress::copy(&uses[to..], rest, behind);
     lay(joined, uses, from);
     lay(&behind[..rest], uses, at);
     lengths[w] = joined.len() as u32;
     Join::Joined(count)
+}
+
+// The same, by way of an array of its own: a small one where that has room, since to zero it takes time.
+fn replace_wire(
+    uses: &mut [u32],
+    lengths: &mut [u32],
+    wires: usize,
+    w: usize,
+    joined: &[u32],
+) -> Join
+    requires { ⌜ (Lying (now uses) (now lengths) wires) × (w < wires) × (length (now joined) ≤ 1024) ⌝ }
+    ensures { λ r. ⌜ leavesJoin r (now (uses .exit)) (now (lengths .exit)) ≡ storedIn (now (uses .entry)) (now (lengths .entry)) (set (wiresOf (now (uses .entry)) (take wires (now (lengths .entry)))) w (now (joined .entry))) ⌝ }
+{
+    if checks::total_uses(lengths, wires) <= 64 {
+        let mut behind = [0u32; 64];
+        return replace_through(uses, lengths, wires, w, joined, &mut behind);
+    }
+    let mut behind = [0u32; 1024];
+    replace_through(uses, lengths, wires, w, joined, &mut behind)
 }
 
 // The first open wire, turned by i, and the second are joined with the first new wire that holds v0.
