@@ -3,7 +3,7 @@ ghost use mathlib.Core.Path.{_≡_};
 ghost use mathlib.Core.List.{List};
 ghost use Prim.Native.Nat.{ℕ, _+_, _*_, _/_, _≤_, _<_};
 ghost use lib.Ieee.{nan};
-ghost use lib.ListN.{length, getD, set};
+ghost use lib.ListN.{length, getD, set, replicate};
 ghost use lib.Seq.{sets};
 ghost use Rattle.compress.specs.Layout.{storeFrom, rows};
 ghost use Rattle.compress.specs.Records.{pick};
@@ -193,20 +193,32 @@ fn visit(seen: &mut [u32], v: usize) -> u32
     before
 }
 
-// Cause 10, of vertices below 4,096.
-fn repeat_cause(divisor: &[u32], count: usize) -> u32
-    requires { ⌜ (count ≤ length (now divisor)) × ((k : ℕ) → k < count → getD (now divisor) k 0 < 4096) ⌝ }
+// Cause 10, found by a table of zeros that has an entry for each vertex.
+fn repeats_in(divisor: &[u32], count: usize, seen: &mut [u32]) -> u32
+    requires { ⌜ (count ≤ length (now divisor)) × ((k : ℕ) → k < count → getD (now divisor) k 0 < length (now seen)) × (now seen ≡ replicate (length (now seen)) 0) ⌝ }
     ensures { λ r. ⌜ r ≡ repeatCause (now (divisor .entry)) count ⌝ }
 {
-    let mut seen = [0u32; 4096];
     let mut i: usize = 0;
     while i < count {
-        if visit(&mut seen, divisor[i] as usize) != 0 {
+        if visit(seen, divisor[i] as usize) != 0 {
             return 10;
         }
         i += 1;
     }
     0
+}
+
+// Cause 10. Few vertices have a small table, since to zero it takes time.
+fn repeat_cause(divisor: &[u32], count: usize, vertices: usize) -> u32
+    requires { ⌜ (count ≤ length (now divisor)) × ((k : ℕ) → k < count → getD (now divisor) k 0 < vertices) × (vertices ≤ 4096) ⌝ }
+    ensures { λ r. ⌜ r ≡ repeatCause (now (divisor .entry)) count ⌝ }
+{
+    if vertices <= 64 {
+        let mut seen = [0u32; 64];
+        return repeats_in(divisor, count, &mut seen);
+    }
+    let mut seen = [0u32; 4096];
+    repeats_in(divisor, count, &mut seen)
 }
 
 // ---- the other causes
@@ -452,7 +464,7 @@ fn split_cause(
     if odd != 0 {
         return odd;
     }
-    repeat_cause(divisor, count)
+    repeat_cause(divisor, count, vertices)
 }
 
 // `split_boundaries_by_divisor`, from `duplicated_edges` on: the new edges are appended to the edge table, and the wires that the walk builds go to
