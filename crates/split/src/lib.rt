@@ -325,7 +325,34 @@ fn split_input_cause(
 // ---- the walk
 
 // The wires that the uses of the wires to be rebuilt and of the new edges make: they go to `made`, wire after wire, and their lengths to `sizes`.
-// The divisor has a pair of vertices for each new edge.
+// The divisor has a pair of vertices for each new edge. The table `marks` holds zeros, and has an entry for each edge.
+fn walk_within(
+    edge_numbers: &[u32],
+    edges: usize,
+    face: &[u32],
+    rebuilt: &[u32],
+    divisor: &[u32],
+    pairs: usize,
+    marks: &mut [u32],
+    made: &mut [u32; 1024],
+    sizes: &mut [u32; 1024],
+) -> Walked
+    requires { ⌜ Walkable (now «edge_numbers») edges (now face) (now rebuilt) (now divisor) pairs ⌝ }
+    requires { ⌜ (edges + pairs ≤ length (now marks)) × ((k : ℕ) → getD (now marks) k 0 ≡ 0) ⌝ }
+    requires { ⌜ (length (now made) ≡ 1024) × (length (now sizes) ≡ 1024) ⌝ }
+    ensures { λ r. ⌜ Traced (lentWalk (now («edge_numbers» .entry)) edges (now (face .entry)) (now (rebuilt .entry)) (now (divisor .entry)) pairs) (length (now (rebuilt .entry)) + pairs * 2) (now (made .exit)) (now (sizes .exit)) r ⌝ }
+{
+    let mut uses = [0u32; 1024];
+    let n = rebuilt.len();
+    let m = n + pairs * 2;
+    duplicated_edges(face, marks);
+    mark_new(marks, edges, pairs);
+    compress::copy(rebuilt, n, &mut uses);
+    signup_new_edges(&mut uses, n, edges, pairs);
+    walk::construct_boundaries(edge_numbers, edges, divisor, marks, &uses[..m], made, sizes)
+}
+
+// The same with a table of its own. Few edges have a small one, since to zero it takes time.
 fn walk_wires(
     edge_numbers: &[u32],
     edges: usize,
@@ -340,20 +367,29 @@ fn walk_wires(
     requires { ⌜ (length (now made) ≡ 1024) × (length (now sizes) ≡ 1024) ⌝ }
     ensures { λ r. ⌜ Traced (lentWalk (now («edge_numbers» .entry)) edges (now (face .entry)) (now (rebuilt .entry)) (now (divisor .entry)) pairs) (length (now (rebuilt .entry)) + pairs * 2) (now (made .exit)) (now (sizes .exit)) r ⌝ }
 {
+    if edges + pairs <= 64 {
+        let mut marks = [0u32; 64];
+        return walk_within(
+            edge_numbers,
+            edges,
+            face,
+            rebuilt,
+            divisor,
+            pairs,
+            &mut marks,
+            made,
+            sizes,
+        );
+    }
     let mut marks = [0u32; 4096];
-    let mut uses = [0u32; 1024];
-    let n = rebuilt.len();
-    let m = n + pairs * 2;
-    duplicated_edges(face, &mut marks);
-    mark_new(&mut marks, edges, pairs);
-    compress::copy(rebuilt, n, &mut uses);
-    signup_new_edges(&mut uses, n, edges, pairs);
-    walk::construct_boundaries(
+    walk_within(
         edge_numbers,
         edges,
+        face,
+        rebuilt,
         divisor,
-        &marks,
-        &uses[..m],
+        pairs,
+        &mut marks,
         made,
         sizes,
     )
