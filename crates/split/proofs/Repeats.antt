@@ -1,4 +1,4 @@
--- Where `repeat_cause` stands: the table has an entry for each vertex that stood before, and none stood twice.
+-- Where `repeats_in` stands: the table has an entry for each vertex that stood before, and none stood twice.
 -- Assumes nothing.
 use mathlib.Core.Path.{_≡_, refl, sym, _∙_}
 use mathlib.Core.Bool.{Bool, true, false, _||_}
@@ -8,7 +8,7 @@ use native.Mathlib.Numerals.{add-one}
 use native.Mathlib.Omega.{arith}
 use borrow.Author.Tests.{eqb-true, eqb-false, lt-ltb, le-ltb}
 use lib.Dec.{eqb, ltb}
-use lib.ListN.{length, getD, set, take, drop, replicate, length-set, length-replicate}
+use lib.ListN.{length, getD, set, take, drop, replicate, length-set}
 use lib.Seq.{drop-cons, drop-length, length-take-le, getD-take, getD-set-same, getD-set-other}
 use Rattle.split.specs.Seams.{stands, repeatsAfter}
 use Rattle.split.specs.Contract.{repeatCause}
@@ -23,24 +23,27 @@ zeros a zero k = refl
 zeros a (suc n) zero = refl
 zeros a (suc n) (suc k) = zeros a n k
 
-pub record Looking (ds : List ℕ) (n : ℕ) (seen : List ℕ) (i : ℕ) : Type 0 where
+blank : (k : ℕ) (seen : List ℕ) → seen ≡ replicate k 0 → (v : ℕ) → getD seen v 0 ≡ 0
+blank k seen p v = rw p (zeros {A = ℕ} 0 k v)
+
+pub record Looking (ds : List ℕ) (n k : ℕ) (seen : List ℕ) (i : ℕ) : Type 0 where
   pub i-le : i ≤ n
-  pub long : length seen ≡ 4096
-  pub entries : (v : ℕ) → v < 4096 → ltb 0 (getD seen v 0) ≡ stands v (before ds i)
+  pub long : length seen ≡ k
+  pub entries : (v : ℕ) → v < k → ltb 0 (getD seen v 0) ≡ stands v (before ds i)
   pub rest : repeatsAfter [] (take n ds) ≡ repeatsAfter (before ds i) (drop i (take n ds))
 
 module _ (ds : List ℕ) (n : ℕ) (lent : n ≤ length ds) where
-  pub looking-start : Looking ds n (replicate 4096 0) 0
+  pub looking-start : (seen : List ℕ) → seen ≡ replicate (length seen) 0 → Looking ds n (length seen) seen 0
   unfolding before stands
-  looking-start =
+  looking-start seen z =
       record {
         i-le = omega arith;
-        long = length-replicate {A = ℕ} 4096 0;
-        entries = λ v h. rw (zeros {A = ℕ} 0 4096 v);
+        long = refl;
+        entries = λ v h. rw (blank (length seen) seen z v);
         rest = refl;
       }
 
-  module _ (seen : List ℕ) (i : ℕ) (L : Looking ds n seen i) (lt : i < n) (below : getD ds i 0 < 4096) where
+  module _ (k : ℕ) (seen : List ℕ) (i : ℕ) (L : Looking ds n k seen i) (lt : i < n) (below : getD ds i 0 < k) where
     -- what is left begins with the vertex at place i
     first : drop i (take n ds) ≡ getD ds i 0 ∷ drop (suc i) (take n ds)
     first = drop-cons (take n ds) i 0 (omega (arith, length-take-le n ds lent)) ∙ rw (getD-take n ds i 0 lt)
@@ -56,14 +59,14 @@ module _ (ds : List ℕ) (n : ℕ) (lent : n ≤ length ds) where
         rw (here, s)
 
     -- it did not
-    entry-next : (v : ℕ) (b : Bool) → eqb (getD ds i 0) v ≡ b → v < 4096
+    entry-next : (v : ℕ) (b : Bool) → eqb (getD ds i 0) v ≡ b → v < k
         → ltb 0 (getD (set seen (getD ds i 0) 1) v 0) ≡ (b || stands v (before ds i))
     entry-next v true q h =
         let p : getD ds i 0 ≡ v = eqb-true _ v q in
         rw (p, getD-set-same seen v 1 0 (omega (arith, L .long)))
     entry-next v false q h = rw (getD-set-other seen (getD ds i 0) v 1 0 (λ (p : v ≡ getD ds i 0). eqb-false _ v q (sym p))) (L .entries v h)
 
-    pub looking-turn : getD seen (getD ds i 0) 0 ≡ 0 → Looking ds n (set seen (getD ds i 0) 1) (i + 1)
+    pub looking-turn : getD seen (getD ds i 0) 0 ≡ 0 → Looking ds n k (set seen (getD ds i 0) 1) (i + 1)
     unfolding before stands
     looking-turn z =
         let s : stands (getD ds i 0) (before ds i) ≡ false = sym (L .entries (getD ds i 0) below) ∙ le-ltb 0 (getD seen (getD ds i 0) 0) (omega (arith, z)) in
@@ -74,9 +77,9 @@ module _ (ds : List ℕ) (n : ℕ) (lent : n ≤ length ds) where
           rest = rw (add-one i) (rw s at here);
         }
 
-  pub looking-done : (seen : List ℕ) (i : ℕ) → Looking ds n seen i → n ≤ i → 0 ≡ repeatCause ds n
+  pub looking-done : (k : ℕ) (seen : List ℕ) (i : ℕ) → Looking ds n k seen i → n ≤ i → 0 ≡ repeatCause ds n
   unfolding repeatsAfter
-  looking-done seen i L h =
+  looking-done k seen i L h =
       let l : length (take n ds) ≡ n = length-take-le n ds lent in
       let p : i ≡ length (take n ds) = omega (arith, L .i-le) in
       let d : drop i (take n ds) ≡ [] = rw p (drop-length (take n ds)) in

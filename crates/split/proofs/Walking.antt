@@ -8,7 +8,7 @@ use native.Mathlib.Omega.{arith}
 use native.Mathlib.Decide.{decLt}
 use borrow.Author.Tests.{ltb-true, ltb-false, leb-true, leb-false, ne-eqb, lt-ltb, le-ltb}
 use lib.Dec.{eqb, leb, ltb}
-use lib.ListN.{length, getD, take, drop, replicate, length-append, length-drop, List·getD-append, List·getD-eq-default}
+use lib.ListN.{length, getD, take, drop, length-append, length-drop, List·getD-append, List·getD-eq-default}
 use lib.Seq.{sets, take-all, take-at, getD-append-add}
 use Rattle.compress.specs.Records.{pick}
 use Rattle.compress.proofs.Cells.{take-sets}
@@ -19,7 +19,6 @@ use Rattle.walk.specs.Answered.{Traced}
 use Rattle.split.specs.Seams.{newUses, occurs, isNewEdge, markedBy}
 use Rattle.split.specs.Steps.{Walkable, lentWalk}
 use Rattle.split.proofs.Fronts.{length-newUses, getD-newUses}
-use Rattle.split.proofs.Repeats.{zeros}
 
 -- an edge past those of the uses does not occur
 occurs-none : (e n : ℕ) (l : List ℕ) → n ≤ e → ((k : ℕ) → k < length l → getD l k 0 / 2 < n) → occurs e l ≡ 0
@@ -28,9 +27,6 @@ occurs-none e n [] h known = refl
 occurs-none e n (u ∷ l) h known =
     let a : eqb (u / 2) e ≡ false = ne-eqb (u / 2) e (λ (p : u / 2 ≡ e). omega (arith, known 0 (omega arith))) in
     rw a (omega (arith, occurs-none e n l h (λ k lt. known (suc k) (omega arith))))
-
-pub zero-marks : (k : ℕ) → _≡_ {A = ℕ} (getD (replicate 4096 0) k 0) 0
-zero-marks k = zeros {A = ℕ} 0 4096 k
 
 twice : (x : ℕ) → ltb 1 x ≡ leb 2 x
 twice x = by (leb 2 x) refl
@@ -41,16 +37,16 @@ twice x = by (leb 2 x) refl
 
 module _ (en : List ℕ) (edges : ℕ) (face rebuilt ds : List ℕ) (pairs : ℕ) (W : Walkable en edges face rebuilt ds pairs) where
   -- ---- the marks
-  module _ (ms₁ ms₂ : List ℕ) (news : (k : ℕ) → getD ms₂ k 0 ≡ pick (isNewEdge edges pairs k) 2 (getD ms₁ k 0)) (long : length ms₁ ≡ 4096)
-      (counts : (k : ℕ) → k < 4096 → getD ms₁ k 0 ≡ occurs k face) where
+  module _ (n : ℕ) (room : edges + pairs ≤ n) (ms₁ ms₂ : List ℕ) (news : (k : ℕ) → getD ms₂ k 0 ≡ pick (isNewEdge edges pairs k) 2 (getD ms₁ k 0))
+      (long : length ms₁ ≡ n) (counts : (k : ℕ) → k < n → getD ms₁ k 0 ≡ occurs k face) where
     counted : (k : ℕ) → getD ms₁ k 0 ≡ occurs k face
-    counted k = by (decLt k 4096)
+    counted k = by (decLt k n)
       where
-        by : Dec (k < 4096) → getD ms₁ k 0 ≡ occurs k face
+        by : Dec (k < n) → getD ms₁ k 0 ≡ occurs k face
         by (yes lt) = counts k lt
         by (no past) =
-            List·getD-eq-default ms₁ 0 {n = k} (omega (arith, past))
-            ∙ sym (occurs-none k edges face (omega (arith, past, W .below)) (W .face-known))
+            List·getD-eq-default ms₁ 0 {n = k} (omega (arith, past, long))
+            ∙ sym (occurs-none k edges face (omega (arith, past, room)) (W .face-known))
 
     mark-is : (b : Bool) (x : ℕ) → ltb 1 (pick b 2 x) ≡ (b || leb 2 x)
     mark-is true x = refl
@@ -100,7 +96,7 @@ module _ (en : List ℕ) (edges : ℕ) (face rebuilt ds : List ℕ) (pairs : ℕ
       by true q = W .ends e j (ltb-true e edges q) g
       by false q = W .stops ((e - edges) * 2 + j) (omega (arith, ltb-false e edges q))
 
-  pub sound : (ms us : List ℕ) → length ms ≡ 4096 → us ≡ toWalk → Sound en ds edges ms us
+  pub sound : (ms us : List ℕ) → edges + pairs ≤ length ms → us ≡ toWalk → Sound en ds edges ms us
   sound ms us lm q =
       rw q
       (record {
@@ -111,7 +107,7 @@ module _ (en : List ℕ) (edges : ℕ) (face rebuilt ds : List ℕ) (pairs : ℕ
               pair = λ ge. omega (arith, known k h, W .paired);
             };
         small = λ k j h g. ends-below (getD toWalk k 0 / 2) j (known k h) g;
-        marks = λ k h. omega (arith, known k h, W .below, lm);
+        marks = λ k h. omega (arith, known k h, lm);
       })
 
   pub walked : (ms us made sizes : List ℕ) (r : Walked) → us ≡ toWalk → markedOf ms ≡ markedBy face edges pairs

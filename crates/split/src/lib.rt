@@ -3,7 +3,7 @@ ghost use mathlib.Core.Path.{_≡_};
 ghost use mathlib.Core.List.{List};
 ghost use Prim.Native.Nat.{ℕ, _+_, _*_, _/_, _≤_, _<_};
 ghost use lib.Ieee.{nan};
-ghost use lib.ListN.{length, getD, set};
+ghost use lib.ListN.{length, getD, set, replicate};
 ghost use lib.Seq.{sets};
 ghost use Rattle.compress.specs.Layout.{storeFrom, rows};
 ghost use Rattle.compress.specs.Records.{pick};
@@ -193,20 +193,32 @@ fn visit(seen: &mut [u32], v: usize) -> u32
     before
 }
 
-// Cause 10, of vertices below 4,096.
-fn repeat_cause(divisor: &[u32], count: usize) -> u32
-    requires { ⌜ (count ≤ length (now divisor)) × ((k : ℕ) → k < count → getD (now divisor) k 0 < 4096) ⌝ }
+// Cause 10, found by a table of zeros that has an entry for each vertex.
+fn repeats_in(divisor: &[u32], count: usize, seen: &mut [u32]) -> u32
+    requires { ⌜ (count ≤ length (now divisor)) × ((k : ℕ) → k < count → getD (now divisor) k 0 < length (now seen)) × (now seen ≡ replicate (length (now seen)) 0) ⌝ }
     ensures { λ r. ⌜ r ≡ repeatCause (now (divisor .entry)) count ⌝ }
 {
-    let mut seen = [0u32; 4096];
     let mut i: usize = 0;
     while i < count {
-        if visit(&mut seen, divisor[i] as usize) != 0 {
+        if visit(seen, divisor[i] as usize) != 0 {
             return 10;
         }
         i += 1;
     }
     0
+}
+
+// Cause 10. Few vertices have a small table, since to zero it takes time.
+fn repeat_cause(divisor: &[u32], count: usize, vertices: usize) -> u32
+    requires { ⌜ (count ≤ length (now divisor)) × ((k : ℕ) → k < count → getD (now divisor) k 0 < vertices) × (vertices ≤ 4096) ⌝ }
+    ensures { λ r. ⌜ r ≡ repeatCause (now (divisor .entry)) count ⌝ }
+{
+    if vertices <= 64 {
+        let mut seen = [0u32; 64];
+        return repeats_in(divisor, count, &mut seen);
+    }
+    let mut seen = [0u32; 4096];
+    repeats_in(divisor, count, &mut seen)
 }
 
 // ---- the other causes
@@ -313,7 +325,34 @@ fn split_input_cause(
 // ---- the walk
 
 // The wires that the uses of the wires to be rebuilt and of the new edges make: they go to `made`, wire after wire, and their lengths to `sizes`.
-// The divisor has a pair of vertices for each new edge.
+// The divisor has a pair of vertices for each new edge. The table `marks` holds zeros, and has an entry for each edge.
+fn walk_within(
+    edge_numbers: &[u32],
+    edges: usize,
+    face: &[u32],
+    rebuilt: &[u32],
+    divisor: &[u32],
+    pairs: usize,
+    marks: &mut [u32],
+    made: &mut [u32; 1024],
+    sizes: &mut [u32; 1024],
+) -> Walked
+    requires { ⌜ Walkable (now «edge_numbers») edges (now face) (now rebuilt) (now divisor) pairs ⌝ }
+    requires { ⌜ (edges + pairs ≤ length (now marks)) × ((k : ℕ) → getD (now marks) k 0 ≡ 0) ⌝ }
+    requires { ⌜ (length (now made) ≡ 1024) × (length (now sizes) ≡ 1024) ⌝ }
+    ensures { λ r. ⌜ Traced (lentWalk (now («edge_numbers» .entry)) edges (now (face .entry)) (now (rebuilt .entry)) (now (divisor .entry)) pairs) (length (now (rebuilt .entry)) + pairs * 2) (now (made .exit)) (now (sizes .exit)) r ⌝ }
+{
+    let mut uses = [0u32; 1024];
+    let n = rebuilt.len();
+    let m = n + pairs * 2;
+    duplicated_edges(face, marks);
+    mark_new(marks, edges, pairs);
+    compress::copy(rebuilt, n, &mut uses);
+    signup_new_edges(&mut uses, n, edges, pairs);
+    walk::construct_boundaries(edge_numbers, edges, divisor, marks, &uses[..m], made, sizes)
+}
+
+// The same with a table of its own. Few edges have a small one, since to zero it takes time.
 fn walk_wires(
     edge_numbers: &[u32],
     edges: usize,
@@ -328,20 +367,29 @@ fn walk_wires(
     requires { ⌜ (length (now made) ≡ 1024) × (length (now sizes) ≡ 1024) ⌝ }
     ensures { λ r. ⌜ Traced (lentWalk (now («edge_numbers» .entry)) edges (now (face .entry)) (now (rebuilt .entry)) (now (divisor .entry)) pairs) (length (now (rebuilt .entry)) + pairs * 2) (now (made .exit)) (now (sizes .exit)) r ⌝ }
 {
+    if edges + pairs <= 64 {
+        let mut marks = [0u32; 64];
+        return walk_within(
+            edge_numbers,
+            edges,
+            face,
+            rebuilt,
+            divisor,
+            pairs,
+            &mut marks,
+            made,
+            sizes,
+        );
+    }
     let mut marks = [0u32; 4096];
-    let mut uses = [0u32; 1024];
-    let n = rebuilt.len();
-    let m = n + pairs * 2;
-    duplicated_edges(face, &mut marks);
-    mark_new(&mut marks, edges, pairs);
-    compress::copy(rebuilt, n, &mut uses);
-    signup_new_edges(&mut uses, n, edges, pairs);
-    walk::construct_boundaries(
+    walk_within(
         edge_numbers,
         edges,
+        face,
+        rebuilt,
         divisor,
-        &marks,
-        &uses[..m],
+        pairs,
+        &mut marks,
         made,
         sizes,
     )
@@ -452,7 +500,7 @@ fn split_cause(
     if odd != 0 {
         return odd;
     }
-    repeat_cause(divisor, count)
+    repeat_cause(divisor, count, vertices)
 }
 
 // `split_boundaries_by_divisor`, from `duplicated_edges` on: the new edges are appended to the edge table, and the wires that the walk builds go to

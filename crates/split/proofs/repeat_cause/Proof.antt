@@ -1,66 +1,39 @@
--- `split::repeat_cause` meets its contract. Assumes nothing.
-use Prim.Native.Nat.{_-_}
+-- `split::repeat_cause` meets its contract: the table has room for the vertices of either size. Assumes nothing.
+use mathlib.Core.Path.{refl}
 use native.Mathlib.Omega.{arith}
-use Rattle.split.proofs.Repeats.{Looking, looking-start, looking-found, looking-turn, looking-done}
+use borrow.Author.Needs.{needs}
 use Rattle.split.proofs.repeat_cause.Statement.{statement}
 use Rattle.split.proofs.repeat_cause.Tie as tie
 
-abbrev Inv-loop : tie.InvT-loop
-Inv-loop divisor count seen₀ i₀ seen i = Looking divisor count seen i
+slice-aggregate-repeats-in : tie.Need-slice-aggregate-repeats-in
+slice-aggregate-repeats-in c = search needs
 
-abbrev μ-loop : tie.MeasureT-loop
-μ-loop divisor count seen₀ i₀ seen i = count - i
+repeats-in-requires : tie.Need-repeats-in-requires
+repeats-in-requires c κs =
+    let p = c .before .before .before .pre in
+    (p .0, λ k h. omega (arith, p .1 k h, c .before .if1 .taken), refl)
 
-loop-holds : tie.Need-loop-holds Inv-loop μ-loop
-loop-holds c = looking-start _ _ (c .before .pre .0)
+returns : tie.Need-returns
+returns c = search needs
 
-slice-aggregate-visit : tie.Need-slice-aggregate-visit Inv-loop μ-loop
-slice-aggregate-visit c = omega (arith, c .before .before .loop .inv .long)
+slice-aggregate-repeats-in-2 : tie.Need-slice-aggregate-repeats-in-2
+slice-aggregate-repeats-in-2 c = search needs
 
-mul-visit : tie.Need-mul-visit Inv-loop μ-loop
-mul-visit c = omega arith
+repeats-in-requires-2 : tie.Need-repeats-in-requires-2
+repeats-in-requires-2 c κs =
+    let p = c .before .before .before .pre in
+    (p .0, λ k h. omega (arith, p .1 k h, p .2), refl)
 
-shared-slice-read-visit : tie.Need-shared-slice-read-visit Inv-loop μ-loop
-shared-slice-read-visit c = omega arith
-
-cast-visit : tie.Need-cast-visit Inv-loop μ-loop
-cast-visit c = omega (arith, c .shared-slice-known2 .given (c .before .before .before .loop .i))
-
-visit-requires : tie.Need-visit-requires Inv-loop μ-loop
-visit-requires c κs =
-    omega (arith, c .before .before .before .loop .inv .long, c .before .before .before .before .before .pre .1 (c .before .before .before .loop .i) (c .before .before .loop-test .taken))
-
-returns : tie.Need-returns Inv-loop μ-loop
-returns c =
-    looking-found _ _ (c .before .before .before .before .before .before .before .before .pre .0) _ _ (c .before .before .before .before .before .before .loop .inv) (c .before .before .before .before .before .loop-test .taken) (c .before .before .before .before .before .before .before .before .pre .1 (c .before .before .before .before .before .before .loop .i) (c .before .before .before .before .before .loop-test .taken)) (rw (c .before .before .visit .ensures .0) at (c .if1 .taken))
-
-add-i : tie.Need-add-i Inv-loop μ-loop
-add-i c = omega arith
-
-loop-less : tie.Need-loop-less Inv-loop μ-loop
-loop-less c = omega arith
-
-loop-again : tie.Need-loop-again Inv-loop μ-loop
-loop-again c =
-    rw (c .before .before .visit .ensures .1) (looking-turn _ _ (c .before .before .before .before .before .before .before .before .pre .0) _ _ (c .before .before .before .before .before .before .loop .inv) (c .before .before .before .before .before .loop-test .taken) (c .before .before .before .before .before .before .before .before .pre .1 (c .before .before .before .before .before .before .loop .i) (c .before .before .before .before .before .loop-test .taken)) (rw (c .before .before .visit .ensures .0) at (c .if1 .left)))
-
-returns-2 : tie.Need-returns-2 Inv-loop μ-loop
-returns-2 c = looking-done _ _ (c .before .before .before .pre .0) _ _ (c .before .loop .inv) (c .loop-test .left)
+returns-2 : tie.Need-returns-2
+returns-2 c = search needs
 
 pub repeat-cause-spec : {M : Type 1} → statement M
 repeat-cause-spec =
     tie.close
     (tie.spec
-    Inv-loop
-    μ-loop
-    loop-holds
-    slice-aggregate-visit
-    mul-visit
-    shared-slice-read-visit
-    cast-visit
-    visit-requires
+    slice-aggregate-repeats-in
+    repeats-in-requires
     returns
-    add-i
-    loop-less
-    loop-again
+    slice-aggregate-repeats-in-2
+    repeats-in-requires-2
     returns-2)

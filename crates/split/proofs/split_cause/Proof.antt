@@ -47,7 +47,7 @@ returns-3 c =
 repeat-cause-requires : tie.Need-repeat-cause-requires
 repeat-cause-requires c κs =
     let A = input-accepted _ (sym (c .before .before .before .before .before .before .split-input-cause .ensures (c .before .before .before .before .before .before .before .before .before .before .before .before .before .before .before .before .before .args .uses .now) (c .before .before .before .before .before .before .before .before .before .before .before .before .before .before .before .before .before .args .lengths .now) 0) ∙ c .before .before .before .before .before .if1 .left) in
-    (A .stops-lent, λ k h. omega (arith, A .stops-known k h, A .vertices))
+    (A .stops-lent, A .stops-known, A .vertices)
 
 returns-4 : tie.Need-returns-4
 returns-4 c =

@@ -1,86 +1,39 @@
--- `split::walk_wires` meets its contract. Assumes nothing.
-use mathlib.Core.Path.{refl, sym, _∙_}
+-- `split::walk_wires` meets its contract: the table has room for the edges of either size. Assumes nothing.
 use Prim.Native.Nat.{ℕ}
-use native.Mathlib.Omega.{arith}
-use lib.ListN.{length-replicate}
-use lib.Seq.{length-take-le}
-use Rattle.split.proofs.Walking.{zero-marks, marked-same, uses-laid, sound, walked}
 use borrow.Author.Needs.{needs}
+use Rattle.split.proofs.Repeats.{zeros}
 use Rattle.split.proofs.walk_wires.Statement.{statement}
 use Rattle.split.proofs.walk_wires.Tie as tie
 
-mul-m : tie.Need-mul-m
-mul-m c = search needs
+add-if1 : tie.Need-add-if1
+add-if1 c = search needs
 
-add-m : tie.Need-add-m
-add-m c = search needs
+slice-aggregate-walk-within : tie.Need-slice-aggregate-walk-within
+slice-aggregate-walk-within c = search needs
 
-slice-aggregate-duplicated-edges : tie.Need-slice-aggregate-duplicated-edges
-slice-aggregate-duplicated-edges c = search needs
-
-duplicated-edges-requires : tie.Need-duplicated-edges-requires
-duplicated-edges-requires c κs =
-    let W = c .before .before .before .before .before .pre .0 in
-    (W .face-few, λ k h. omega (arith, W .face-known k h, W .below), zero-marks)
-
-slice-aggregate-mark-new : tie.Need-slice-aggregate-mark-new
-slice-aggregate-mark-new c = search needs
-
-mark-new-requires : tie.Need-mark-new-requires
-mark-new-requires c κs = search needs
-
-slice-aggregate-copy : tie.Need-slice-aggregate-copy
-slice-aggregate-copy c = search needs
-
-copy-requires : tie.Need-copy-requires
-copy-requires c κs = search needs
-
-slice-aggregate-signup-new-edges : tie.Need-slice-aggregate-signup-new-edges
-slice-aggregate-signup-new-edges c = search needs
-
-signup-new-edges-requires : tie.Need-signup-new-edges-requires
-signup-new-edges-requires c κs = search needs
-
-slice-aggregate-construct-boundaries : tie.Need-slice-aggregate-construct-boundaries
-slice-aggregate-construct-boundaries c = search needs
-
-array-share-prefix-uses : tie.Need-array-share-prefix-uses
-array-share-prefix-uses c = search needs
-
-slice-aggregate-construct-boundaries-2 : tie.Need-slice-aggregate-construct-boundaries-2
-slice-aggregate-construct-boundaries-2 c =
-    let W = c .before .before .before .before .before .before .before .before .before .before .before .before .before .before .before .before .before .before .pre .0 in
-    sym (length-take-le _ _ (omega (arith, W .few, c .before .before .before .signup-new-edges .kept)))
-
-construct-boundaries-requires : tie.Need-construct-boundaries-requires
-construct-boundaries-requires c κs =
-    let W = c .before .before .before .before .before .before .before .before .before .before .before .before .before .before .before .before .before .before .before .before .pre .0 in
-    let u = uses-laid _ _ _ _ _ _ W _ _ _ _ (length-replicate {A = ℕ} 1024 0) (c .before .before .before .before .before .before .before .before .copy .ensures) (c .before .before .before .before .before .signup-new-edges .ensures) refl in
-    (sound _ _ _ _ _ _ W _ _ (omega (arith, c .before .before .before .before .before .before .before .before .before .before .before .mark-new .kept, c .before .before .before .before .before .before .before .before .before .before .before .before .before .before .duplicated-edges .kept)) u, c .before .before .before .before .before .before .before .before .before .before .before .before .before .before .before .before .before .before .before .before .pre .1)
+walk-within-requires : tie.Need-walk-within-requires
+walk-within-requires c κs = (c .before .before .before .before .before .before .before .before .pre .0, ((c .before .before .before .if1 .taken, zeros {A = ℕ} 0 64), c .before .before .before .before .before .before .before .before .pre .1))
 
 returns : tie.Need-returns
-returns c =
-    let W = c .before .before .before .before .before .before .before .before .before .before .before .before .before .before .before .before .before .before .before .before .before .pre .0 in
-    let u = uses-laid _ _ _ _ _ _ W _ _ _ _ (length-replicate {A = ℕ} 1024 0) (c .before .before .before .before .before .before .before .before .before .copy .ensures) (c .before .before .before .before .before .before .signup-new-edges .ensures) refl in
-    let m = marked-same _ _ _ _ _ _ W (c .before .before .before .before .before .before .before .before .before .before .before .before .before .before .before .duplicated-edges .last .1 .0) (c .before .before .before .before .before .before .before .before .before .before .before .before .mark-new .last .0) (c .before .before .before .before .before .before .before .before .before .before .before .before .mark-new .ensures) (c .before .before .before .before .before .before .before .before .before .before .before .before .before .before .before .duplicated-edges .kept .1 .0 ∙ length-replicate {A = ℕ} 4096 0) (λ k h. c .before .before .before .before .before .before .before .before .before .before .before .before .before .before .before .duplicated-edges .ensures k h) in
-    walked _ _ _ _ _ _ W (c .before .before .before .before .before .before .before .before .before .before .before .before .mark-new .last .0) _ _ _ _ u m (c .construct-boundaries .ensures)
+returns c = search needs
+
+slice-aggregate-walk-within-2 : tie.Need-slice-aggregate-walk-within-2
+slice-aggregate-walk-within-2 c = search needs
+
+walk-within-requires-2 : tie.Need-walk-within-requires-2
+walk-within-requires-2 c κs = (c .before .before .before .before .before .before .before .before .pre .0, ((c .before .before .before .before .before .before .before .before .pre .0 .below, zeros {A = ℕ} 0 4096), c .before .before .before .before .before .before .before .before .pre .1))
+
+returns-2 : tie.Need-returns-2
+returns-2 c = search needs
 
 pub walk-wires-spec : {M : Type 1} → statement M
 walk-wires-spec =
     tie.close
     (tie.spec
-    mul-m
-    add-m
-    slice-aggregate-duplicated-edges
-    duplicated-edges-requires
-    slice-aggregate-mark-new
-    mark-new-requires
-    slice-aggregate-copy
-    copy-requires
-    slice-aggregate-signup-new-edges
-    signup-new-edges-requires
-    slice-aggregate-construct-boundaries
-    array-share-prefix-uses
-    slice-aggregate-construct-boundaries-2
-    construct-boundaries-requires
-    returns)
+    add-if1
+    slice-aggregate-walk-within
+    walk-within-requires
+    returns
+    slice-aggregate-walk-within-2
+    walk-within-requires-2
+    returns-2)
