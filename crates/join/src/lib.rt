@@ -120,13 +120,13 @@ fn lay_second(
     n + second.len()
 }
 
-// The first open wire turned by i, the new wire turned to v0 behind it, all turned to v1, and the second open wire turned by j behind that.
+// The first open wire turned by `turn`, the new wire turned to v0 behind it, all turned to v1, and the second open wire turned by j behind that.
 // The answer is the length, and 0 where v1 is not found.
 fn lay_through(
     edge_numbers: &[u32],
     edge_floats: &[f64],
     first: &[u32],
-    i: usize,
+    turn: usize,
     second: &[u32],
     j: usize,
     wire: &[u32],
@@ -135,12 +135,12 @@ fn lay_through(
     out: &mut [u32],
     open: &mut [u32],
 ) -> usize
-    requires { ⌜ (i ≤ length (now first)) × (j ≤ length (now second)) × (length (now first) + length (now wire) + length (now second) ≤ 1024) × (length (now out) ≡ 1024) ⌝ }
+    requires { ⌜ (turn ≤ length (now first)) × (j ≤ length (now second)) × (length (now first) + length (now wire) + length (now second) ≤ 1024) × (length (now out) ≡ 1024) ⌝ }
     requires { ⌜ (Readable (now «edge_numbers») (now «edge_floats») (now first)) × (Readable (now «edge_numbers») (now «edge_floats») (now wire)) ⌝ }
     requires { ⌜ (length (now first) + length (now wire) ≤ length (now «open»)) × (length (now «open») ≤ 1024) ⌝ }
-    ensures { λ r. ⌜ (laid r (now (out .exit)) ≡ closedBy (edgeAt (now («edge_numbers» .entry)) (now («edge_floats» .entry))) v1 (turned i (now (first .entry)) ++ turned (indexOf (edgeAt (now («edge_numbers» .entry)) (now («edge_floats» .entry))) v0 (now (wire .entry))) (now (wire .entry))) (turned j (now (second .entry)))) × (r ≤ 1024) ⌝ }
+    ensures { λ r. ⌜ (laid r (now (out .exit)) ≡ closedBy (edgeAt (now («edge_numbers» .entry)) (now («edge_floats» .entry))) v1 (turned turn (now (first .entry)) ++ turned (indexOf (edgeAt (now («edge_numbers» .entry)) (now («edge_floats» .entry))) v0 (now (wire .entry))) (now (wire .entry))) (turned j (now (second .entry)))) × (r ≤ 1024) ⌝ }
 {
-    lay_first(edge_numbers, edge_floats, first, i, wire, v0, open);
+    lay_first(edge_numbers, edge_floats, first, turn, wire, v0, open);
     let n = first.len() + wire.len();
     lay_second(edge_numbers, edge_floats, &open[..n], v1, second, j, out)
 }
@@ -150,7 +150,7 @@ fn lay_joined(
     edge_numbers: &[u32],
     edge_floats: &[f64],
     first: &[u32],
-    i: usize,
+    turn: usize,
     second: &[u32],
     j: usize,
     wire: &[u32],
@@ -158,9 +158,9 @@ fn lay_joined(
     v1: u32,
     out: &mut [u32],
 ) -> usize
-    requires { ⌜ (i ≤ length (now first)) × (j ≤ length (now second)) × (length (now first) + length (now wire) + length (now second) ≤ 1024) × (length (now out) ≡ 1024) ⌝ }
+    requires { ⌜ (turn ≤ length (now first)) × (j ≤ length (now second)) × (length (now first) + length (now wire) + length (now second) ≤ 1024) × (length (now out) ≡ 1024) ⌝ }
     requires { ⌜ (Readable (now «edge_numbers») (now «edge_floats») (now first)) × (Readable (now «edge_numbers») (now «edge_floats») (now wire)) ⌝ }
-    ensures { λ r. ⌜ (laid r (now (out .exit)) ≡ closedBy (edgeAt (now («edge_numbers» .entry)) (now («edge_floats» .entry))) v1 (turned i (now (first .entry)) ++ turned (indexOf (edgeAt (now («edge_numbers» .entry)) (now («edge_floats» .entry))) v0 (now (wire .entry))) (now (wire .entry))) (turned j (now (second .entry)))) × (r ≤ 1024) ⌝ }
+    ensures { λ r. ⌜ (laid r (now (out .exit)) ≡ closedBy (edgeAt (now («edge_numbers» .entry)) (now («edge_floats» .entry))) v1 (turned turn (now (first .entry)) ++ turned (indexOf (edgeAt (now («edge_numbers» .entry)) (now («edge_floats» .entry))) v0 (now (wire .entry))) (now (wire .entry))) (turned j (now (second .entry)))) × (r ≤ 1024) ⌝ }
 {
     if first.len() + wire.len() <= 64 {
         let mut open = [0u32; 64];
@@ -168,7 +168,7 @@ fn lay_joined(
             edge_numbers,
             edge_floats,
             first,
-            i,
+            turn,
             second,
             j,
             wire,
@@ -183,7 +183,7 @@ fn lay_joined(
         edge_numbers,
         edge_floats,
         first,
-        i,
+        turn,
         second,
         j,
         wire,

@@ -30,14 +30,14 @@ lay-second-requires c κs =
     let s = c .before .before .before .before .before .before .before .before .before .before .before .before .before in
     let a = s .args in
     let es = edgeAt (a .edge-numbers .now) (a .edge-floats .now) in
-    let p = turned (a .i) (a .first .now) in
+    let p = turned (a .turn) (a .first .now) in
     let q = turned (indexOf es (a .v0) (a .wire .now)) (a .wire .now) in
     let k = index-le es (a .v0) (a .wire .now) in
-    let l = length-turned (a .i) (a .first .now) (s .pre .0 .0) in
+    let l = length-turned (a .turn) (a .first .now) (s .pre .0 .0) in
     let m = length-turned (indexOf es (a .v0) (a .wire .now)) (a .wire .now) k in
     let n = length-append p q in
     rw (c .before .before .before .before .lay-first .ensures)
-    (s .pre .0 .1, omega (arith, s .pre .0 .2, s .pre .0 .3, l, m, n), omega (arith, s .pre .0 .3), append-rows (a .edge-numbers .now) (a .edge-floats .now) p q (turned-rows (a .edge-numbers .now) (a .edge-floats .now) (a .i) (a .first .now) (s .pre .0 .0) (s .pre .1 .0 .0)) (turned-rows (a .edge-numbers .now) (a .edge-floats .now) (indexOf es (a .v0) (a .wire .now)) (a .wire .now) k (s .pre .1 .0 .1)))
+    (s .pre .0 .1, omega (arith, s .pre .0 .2, s .pre .0 .3, l, m, n), omega (arith, s .pre .0 .3), append-rows (a .edge-numbers .now) (a .edge-floats .now) p q (turned-rows (a .edge-numbers .now) (a .edge-floats .now) (a .turn) (a .first .now) (s .pre .0 .0) (s .pre .1 .0 .0)) (turned-rows (a .edge-numbers .now) (a .edge-floats .now) (indexOf es (a .v0) (a .wire .now)) (a .wire .now) k (s .pre .1 .0 .1)))
 
 same-length : tie.Need-same-length
 same-length c = search needs
@@ -51,10 +51,10 @@ returns c =
     let e = rw (c .before .before .before .before .before .before .before .lay-first .ensures) at (c .before .before .lay-second .ensures) in
     let a = s .args in
     let es = edgeAt (a .edge-numbers .now) (a .edge-floats .now) in
-    let p = turned (a .i) (a .first .now) in
+    let p = turned (a .turn) (a .first .now) in
     let q = turned (indexOf es (a .v0) (a .wire .now)) (a .wire .now) in
     let k = index-le es (a .v0) (a .wire .now) in
-    let l = length-turned (a .i) (a .first .now) (s .pre .0 .0) in
+    let l = length-turned (a .turn) (a .first .now) (s .pre .0 .0) in
     let m = length-turned (indexOf es (a .v0) (a .wire .now)) (a .wire .now) k in
     (e .0, omega (arith, e .1, l, m, length-append p q, s .pre .0 .2))
 
