@@ -1,4 +1,6 @@
 // The shell of the burner pipe, and what a host would supply for it. Radius 1, height 4.
+ghost use mathlib.Core.Path.{_≡_};
+ghost use mathlib.Core.Bool.{true, false};
 use compress::Uv;
 
 // Once round the pipe.
@@ -50,7 +52,9 @@ fn points() -> [f64; 28] {
 }
 
 // So many given vertices.
-pub fn given(count: usize) -> Vertices {
+pub fn given(count: usize) -> Vertices
+    ensures { λ r. ⌜ r .count ≡ count ⌝ }
+{
     Vertices {
         numbers: [0; 12],
         floats: points(),
@@ -75,7 +79,9 @@ fn rims() -> Edges {
 }
 
 // The edges with these rows.
-pub fn edge_table(numbers: [u32; 24], floats: [f64; 36], count: usize) -> Edges {
+pub fn edge_table(numbers: [u32; 24], floats: [f64; 36], count: usize) -> Edges
+    ensures { λ r. ⌜ r ≡ record { numbers = numbers; floats = floats; count = count } ⌝ }
+{
     Edges {
         numbers,
         floats,
@@ -84,21 +90,27 @@ pub fn edge_table(numbers: [u32; 24], floats: [f64; 36], count: usize) -> Edges 
 }
 
 // The same rows, so many of them edges.
-pub fn counted(e: Edges, count: usize) -> Edges {
+pub fn counted(e: Edges, count: usize) -> Edges
+    ensures { λ r. ⌜ r ≡ record { numbers = e .numbers; floats = e .floats; count = count } ⌝ }
+{
     let numbers = e.numbers;
     let floats = e.floats;
     edge_table(numbers, floats, count)
 }
 
 // The same uses and lengths, so many of them wires.
-pub fn wires_counted(w: Wires, count: usize) -> Wires {
+pub fn wires_counted(w: Wires, count: usize) -> Wires
+    ensures { λ r. ⌜ r ≡ record { uses = w .uses; lengths = w .lengths; count = count } ⌝ }
+{
     let uses = w.uses;
     let lengths = w.lengths;
     wire_table(uses, lengths, count)
 }
 
 // The wires with these uses and lengths.
-pub fn wire_table(uses: [u32; 8], lengths: [u32; 8], count: usize) -> Wires {
+pub fn wire_table(uses: [u32; 8], lengths: [u32; 8], count: usize) -> Wires
+    ensures { λ r. ⌜ r ≡ record { uses = uses; lengths = lengths; count = count } ⌝ }
+{
     Wires {
         uses,
         lengths,
@@ -107,7 +119,9 @@ pub fn wire_table(uses: [u32; 8], lengths: [u32; 8], count: usize) -> Wires {
 }
 
 // The shell of three tables.
-pub fn shell_of(vertices: Vertices, edges: Edges, wires: Wires) -> Shell {
+pub fn shell_of(vertices: Vertices, edges: Edges, wires: Wires) -> Shell
+    ensures { λ r. ⌜ r ≡ record { vertices = vertices; edges = edges; wires = wires; «is_whole» = true } ⌝ }
+{
     Shell {
         vertices,
         edges,
@@ -117,7 +131,9 @@ pub fn shell_of(vertices: Vertices, edges: Edges, wires: Wires) -> Shell {
 }
 
 // The same shell after a step that was turned away.
-pub fn stopped(s: Shell) -> Shell {
+pub fn stopped(s: Shell) -> Shell
+    ensures { λ r. ⌜ r ≡ record { vertices = s .vertices; edges = s .edges; wires = s .wires; «is_whole» = false } ⌝ }
+{
     let vertices = s.vertices;
     let edges = s.edges;
     let wires = s.wires;
@@ -130,7 +146,9 @@ pub fn stopped(s: Shell) -> Shell {
 }
 
 // The pipe as a drawing office sends it, with the wires 0+ and 1-.
-pub fn burner_pipe() -> Shell {
+pub fn burner_pipe() -> Shell
+    ensures { λ r. ⌜ r .«is_whole» ≡ true ⌝ }
+{
     let mut uses = [0u32; 8];
     uses[1] = 3;
     let mut lengths = [0u32; 8];
