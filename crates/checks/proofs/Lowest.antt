@@ -43,6 +43,14 @@ lower-none a b e = by (lower-is a b)
     by (first p q r) = absurd (omega arith)
     by (second p q r) = absurd (omega arith)
 
+pub lower-last : (a : ℕ) → lowerOf a 0 ≡ a
+lower-last a = by (lower-is a 0)
+  where
+    by : Lower a 0 (lowerOf a 0) → lowerOf a 0 ≡ a
+    by (none p q r) = omega arith
+    by (first p q r) = q
+    by (second p q r) = absurd (omega arith)
+
 -- ---- the lowest of many
 pub lowest-turn : (f : ℕ → ℕ) (i least cause r : ℕ) → least ≡ lowestOf f i → cause ≡ f i → r ≡ lowerOf least cause → r ≡ lowestOf f (i + 1)
 unfolding lowestOf

@@ -21,7 +21,7 @@ use Rattle.compress.specs.Refusals.{refusalNumber, refusalOf}
 use Rattle.compress.specs.Said.{Said, refused, refusedOr}
 use Rattle.compress.specs.Rows.{edgeAt, vertexAt}
 use Rattle.compress.specs.Wires.{total}
-use Rattle.checks.specs.Causes.{when, lowerOf, lowestOf, floatCause, rangeCause, parameterCause, uvCause, curveCause, edgeCause, pointCause, vertexCause, countCause, vertexNumberCause, edgeNumberCause, periodCause, pendingCause, edgeRowCause, vertexRowCause, edgesCause, verticesCause, usesCause, wiresCause}
+use Rattle.checks.specs.Causes.{when, lowerOf, lowestOf, floatCause, rangeCause, parameterCause, uvCause, curveCause, edgeCause, pointCause, vertexCause, countCause, vertexNumberCause, edgeNumberCause, periodCause, pendingCause, edgeRowCause, vertexRowCause, pendingRowCause, edgesCause, verticesCause, usesCause, wiresCause}
 use Rattle.checks.proofs.Lowest.{Lower, none, first, second, lower-is}
 
 pub when-small : (b : Bool) (n : ℕ) → n ≤ 15 → when b n ≤ 15
@@ -132,7 +132,7 @@ unfolding pendingCause
 pending-small ns n =
     none-or (ltb 4096 n) _
     (none-or (ltb (length ns) (n * 3)) _
-    (lowest-small (λ i. when (eqb (getD ns (i * 3) 0) 1) 7) n (λ i. when-small (eqb (getD ns (i * 3) 0) 1) 7 (omega arith))))
+    (lowest-small (pendingRowCause ns) n (λ i. when-small (eqb (getD ns (i * 3) 0) 1) 7 (omega arith))))
   where
     none-or : (b : Bool) (k : ℕ) → k ≤ 15 → pick b 0 k ≤ 15
     none-or true k h = omega arith

@@ -21,7 +21,7 @@ use Rattle.compress.specs.declared.Curve.{Curve}
 use Rattle.compress.specs.declared.Curve.the-variants.{Span, Seam}
 use Rattle.compress.specs.Records.{pick, firstOf, lastOf}
 use Rattle.compress.specs.Rows.{curveOf, edgeOf, vertexOf, edgeAt, vertexAt}
-use Rattle.checks.specs.Causes.{when, lowerOf, lowestOf, floatCause, rangeCause, parameterCause, uvCause, pointCause, curveCause, edgeCause, vertexCause, edgeRowCause, vertexRowCause}
+use Rattle.checks.specs.Causes.{when, lowerOf, lowestOf, floatCause, rangeCause, parameterCause, uvCause, pointCause, curveCause, edgeCause, vertexCause, edgeRowCause, vertexRowCause, pendingRowCause}
 use Rattle.checks.proofs.Lowest.{lower-first, lower-none}
 
 -- ---- tests
@@ -174,6 +174,9 @@ pub given-sound : (ns : List ℕ) (fs : List Float) (i : ℕ) → getD ns (i * 3
     → pointCause (getD fs (i * 7) nan) (getD fs (i * 7 + 1) nan) (getD fs (i * 7 + 2) nan) ≡ 0 → vertexRowCause ns fs i ≡ 0
 unfolding vertexRowCause vertexCause vertexOf
 given-sound ns fs i k p = rw k (lower-zero 0 _ refl (lower-zero 0 _ refl p))
+
+pub not-pending : (ns : List ℕ) (i : ℕ) → getD ns (i * 3) 0 ≡ 0 → pendingRowCause ns i ≡ 0
+not-pending ns i k = rw k
 
 pub pending-sound : (ns : List ℕ) (fs : List Float) (i : ℕ) → getD ns (i * 3) 0 ≡ 1
     → (getD ns (i * 3 + 1) 0 ≤ 1) × ((n : ℕ) → curveCause (curveCells (getD ns (i * 3 + 1) 0) fs (i * 7) n) ≡ 0)

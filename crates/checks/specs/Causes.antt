@@ -112,10 +112,11 @@ verticesCause ns fs n =
     (pick (ltb (length ns) (n * 3)) 1 (pick (ltb (length fs) (n * 7)) 1 (lowestOf (vertexRowCause ns fs) n)))
 
 -- 7: "Any vertex lent to nearest ends or to the non-simple search is pending". A table that does not lie in its slice has cause 1.
+abbrev pub pendingRowCause : List ℕ → ℕ → ℕ
+pendingRowCause ns i = when (eqb (getD ns (i * 3) 0) 1) 7
+
 unfoldable pub pendingCause : List ℕ → ℕ → ℕ
-pendingCause ns n =
-    pick (ltb 4096 n) 0
-    (pick (ltb (length ns) (n * 3)) 0 (lowestOf (λ i. when (eqb (getD ns (i * 3) 0) 1) 7) n))
+pendingCause ns n = pick (ltb 4096 n) 0 (pick (ltb (length ns) (n * 3)) 0 (lowestOf (pendingRowCause ns) n))
 
 -- ---- wires: n of them, with as many lengths, and as many uses as the sum of these
 

@@ -3,13 +3,12 @@
 ghost use mathlib.Core.Path.{_≡_};
 ghost use mathlib.Core.Bool.{true};
 ghost use Prim.Native.Nat.{ℕ, _+_, _*_, _/_, _≤_};
-ghost use lib.Dec.{eqb};
 ghost use lib.ListN.{length, getD, take};
 ghost use lib.Ieee.{nan};
 ghost use Rattle.compress.specs.Records.{firstOf, lastOf};
 ghost use Rattle.compress.specs.Rows.{curveOf};
 ghost use Rattle.compress.specs.Wires.{total};
-ghost use Rattle.checks.specs.Causes.{when, lowerOf, lowestOf, countCause, kindCause, vertexNumberCause, edgeNumberCause, floatCause, rangeCause, parameterCause, periodCause, uvCause, curveCause, edgeCause, pointCause, vertexCause, curveKindCause, edgeRowCause, vertexRowCause, edgesCause, verticesCause, pendingCause, usesCause, wiresCause};
+ghost use Rattle.checks.specs.Causes.{when, lowerOf, lowestOf, countCause, kindCause, vertexNumberCause, edgeNumberCause, floatCause, rangeCause, parameterCause, periodCause, uvCause, curveCause, edgeCause, pointCause, vertexCause, curveKindCause, edgeRowCause, vertexRowCause, edgesCause, verticesCause, pendingRowCause, pendingCause, usesCause, wiresCause};
 use compress::Curve;
 use compress::Edge;
 use compress::Uv;
@@ -301,16 +300,29 @@ fn are_vertices_sound(numbers: &[u32], floats: &[f64], count: usize) -> bool
     true
 }
 
-// No vertex is pending.
-fn are_given(numbers: &[u32], count: usize) -> bool
-    requires { ⌜ count * 3 ≤ length (now numbers) ⌝ }
-    ensures { λ r. ⌜ (r ≡ true → lowestOf (λ i. when (eqb (getD (now (numbers .entry)) (i * 3) 0) 1) 7) count ≡ 0) ⌝ }
+// The vertex of row i is given, and without a cause.
+fn is_given_sound(numbers: &[u32], floats: &[f64], i: usize) -> bool
+    requires { ⌜ (i * 3 + 3 ≤ length (now numbers)) × (i * 7 + 7 ≤ length (now floats)) ⌝ }
+    ensures { λ r. ⌜ (r ≡ true → (vertexRowCause (now (numbers .entry)) (now (floats .entry)) i ≡ 0) × (pendingRowCause (now (numbers .entry)) i ≡ 0)) ⌝ }
 {
-    let mut given = true;
-    for i in 0..count {
-        given = given & (numbers[i * 3] != 1);
+    let a = i * 3;
+    let b = i * 7;
+    if numbers[a] != 0 {
+        return false;
     }
-    given
+    is_point_sound(floats[b], floats[b + 1], floats[b + 2])
+}
+
+fn are_given_sound(numbers: &[u32], floats: &[f64], count: usize) -> bool
+    requires { ⌜ (count * 3 ≤ length (now numbers)) × (count * 7 ≤ length (now floats)) ⌝ }
+    ensures { λ r. ⌜ (r ≡ true → (lowestOf (vertexRowCause (now (numbers .entry)) (now (floats .entry))) count ≡ 0) × (lowestOf (pendingRowCause (now (numbers .entry))) count ≡ 0)) ⌝ }
+{
+    for i in 0..count {
+        if !is_given_sound(numbers, floats, i) {
+            return false;
+        }
+    }
+    true
 }
 
 fn are_uses_sound(edges: usize, uses: &[u32], count: usize) -> bool
@@ -389,7 +401,7 @@ pub fn vertices(numbers: &[u32], floats: &[f64], count: usize) -> u32
 
 fn pending_rows(numbers: &[u32], count: usize) -> u32
     requires { ⌜ count * 3 ≤ length (now numbers) ⌝ }
-    ensures { λ r. ⌜ r ≡ lowestOf (λ i. when (eqb (getD (now (numbers .entry)) (i * 3) 0) 1) 7) count ⌝ }
+    ensures { λ r. ⌜ r ≡ lowestOf (pendingRowCause (now (numbers .entry))) count ⌝ }
 {
     let mut least: u32 = 0;
     for i in 0..count {
@@ -409,10 +421,23 @@ pub fn pending(numbers: &[u32], count: usize) -> u32
     if numbers.len() < count * 3 {
         return 0;
     }
-    if are_given(numbers, count) {
-        return 0;
-    }
     pending_rows(numbers, count)
+}
+
+// A table of given vertices that has no cause, 7 included, told in one pass. After a no `vertices` and `pending` tell the causes.
+pub fn are_points(numbers: &[u32], floats: &[f64], count: usize) -> bool
+    ensures { λ r. ⌜ (r ≡ true → (verticesCause (now (numbers .entry)) (now (floats .entry)) count ≡ 0) × (pendingCause (now (numbers .entry)) count ≡ 0)) ⌝ }
+{
+    if count > 4096 {
+        return false;
+    }
+    if numbers.len() < count * 3 {
+        return false;
+    }
+    if floats.len() < count * 7 {
+        return false;
+    }
+    are_given_sound(numbers, floats, count)
 }
 
 // ---- wires

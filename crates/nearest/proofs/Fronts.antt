@@ -16,8 +16,9 @@ use Rattle.compress.specs.Rows.{edgeAt}
 use Rattle.checks.specs.Causes.{verticesCause, edgesCause}
 use Rattle.checks.proofs.Accepted.{edges-accepted, edge-ends, vertices-accepted}
 use Rattle.nearest.specs.Choice.{smaller}
+use Rattle.nearest.specs.declared.Away.{Away}
 use Rattle.compress.specs.Said.{result, none}
-use Rattle.nearest.specs.Ends.{gapFrom, frontsOf, nearestFront, nearestEnds, endsFrom}
+use Rattle.nearest.specs.Ends.{pointOf, awayAt, gapOf, gapFrom, frontsOf, nearestFront, nearestEnds, endsFrom}
 
 pick-below : (b : Bool) (x y v : ℕ) → x < v → y < v → pick b x y < v
 pick-below true x y v h k = h
@@ -45,31 +46,45 @@ pub smaller-below : (f : ℕ → Float) (a b v : ℕ) → a < v → b < v → sm
 unfolding smaller
 smaller-below f a b v h k = pick-below (lt (f b) (f a)) b a v k h
 
-pub record Seeking (es : ℕ → Edge) (vs : ℕ → Vertex) (p v : ℕ) (us : List ℕ) (i best : ℕ) : Type 0 where
+-- of two vertices the one that is less away is the one that is nearer
+less-away : (vs : ℕ → Vertex) (p a b : ℕ) → smaller gapOf (awayAt vs (pointOf (vs p)) a) (awayAt vs (pointOf (vs p)) b) ≡ awayAt vs (pointOf (vs p)) (smaller (gapFrom vs p) a b)
+unfolding smaller gapFrom
+less-away vs p a b = by (lt (gapFrom vs p b) (gapFrom vs p a))
+  where
+    by : (t : Bool) → pick t (awayAt vs (pointOf (vs p)) b) (awayAt vs (pointOf (vs p)) a) ≡ awayAt vs (pointOf (vs p)) (pick t b a)
+    by true = refl
+    by false = refl
+
+pub record Seeking (es : ℕ → Edge) (vs : ℕ → Vertex) (p v : ℕ) (us : List ℕ) (i : ℕ) (best : Away) : Type 0 where
   pub i-ge : 1 ≤ i
   pub i-le : i ≤ length us
-  pub below : best < v
-  pub is : foldl (smaller (gapFrom vs p)) best (frontsOf es (drop i us)) ≡ nearestFront es vs p (getD us 0 0) (drop 1 us)
+  pub below : best .vertex < v
+  pub away : best ≡ awayAt vs (pointOf (vs p)) (best .vertex)
+  pub is : foldl (smaller (gapFrom vs p)) (best .vertex) (frontsOf es (drop i us)) ≡ nearestFront es vs p (getD us 0 0) (drop 1 us)
 
 module _ (es : ℕ → Edge) (vs : ℕ → Vertex) (p v : ℕ) (us : List ℕ) where
-  pub seeking-start : (best : ℕ) → 0 < length us → best ≡ frontAt es (getD us 0 0) → best < v → Seeking es vs p v us 1 best
+  pub seeking-start : (f : ℕ) (best : Away) → 0 < length us → f ≡ frontAt es (getD us 0 0) → f < v → best ≡ awayAt vs (pointOf (vs p)) f → Seeking es vs p v us 1 best
   unfolding nearestFront
-  seeking-start best h q b = record { i-ge = omega arith; i-le = omega arith; below = b; is = rw q }
+  seeking-start f best h q b e = rw e (record { i-ge = omega arith; i-le = omega arith; below = b; away = refl; is = rw q })
 
-  pub seeking-turn : (i best f best′ : ℕ) → Seeking es vs p v us i best → i < length us → f ≡ frontAt es (getD us i 0) → f < v
-      → best′ ≡ smaller (gapFrom vs p) best f → Seeking es vs p v us (i + 1) best′
+  pub seeking-turn : (i f : ℕ) (best next : Away) → Seeking es vs p v us i best → i < length us → f ≡ frontAt es (getD us i 0) → f < v
+      → next ≡ smaller gapOf best (awayAt vs (pointOf (vs p)) f) → Seeking es vs p v us (i + 1) next
   unfolding frontsOf
-  seeking-turn i best f best′ S lt q b e =
+  seeking-turn i f best next S lt q b e =
       let d : drop i us ≡ getD us i 0 ∷ drop (i + 1) us = rw (add-one i) (drop-cons us i 0 lt) in
-      record {
+      let n : next ≡ awayAt vs (pointOf (vs p)) (smaller (gapFrom vs p) (best .vertex) f)
+      = e ∙ ap (λ (a : Away). smaller gapOf a (awayAt vs (pointOf (vs p)) f)) (S .away) ∙ less-away vs p (best .vertex) f in
+      rw n
+      (record {
         i-ge = omega arith;
         i-le = omega arith;
-        below = rw e (smaller-below (gapFrom vs p) best f v (S .below) b);
-        is = rw (e, q) (rw d at (S .is));
-      }
+        below = smaller-below (gapFrom vs p) (best .vertex) f v (S .below) b;
+        away = refl;
+        is = rw q (rw d at (S .is));
+      })
 
-  pub seeking-done : (i best : ℕ) → Seeking es vs p v us i best → length us ≤ i
-      → (best ≡ nearestFront es vs p (getD us 0 0) (drop 1 us)) × (best < v)
+  pub seeking-done : (i : ℕ) (best : Away) → Seeking es vs p v us i best → length us ≤ i
+      → (best .vertex ≡ nearestFront es vs p (getD us 0 0) (drop 1 us)) × (best .vertex < v)
   unfolding frontsOf
   seeking-done i best S h =
       let q : i ≡ length us = omega (arith, S .i-le) in

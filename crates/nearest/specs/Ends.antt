@@ -14,6 +14,7 @@ use Rattle.compress.specs.Rows.{edgeAt, vertexAt}
 use Rattle.compress.specs.Said.{Said, result, none, refused, refusedOr}
 use Rattle.checks.specs.Causes.{lowerOf, verticesCause, edgesCause, usesCause, vertexNumberCause, pendingCause}
 use Rattle.nearest.specs.declared.Xyz.{Xyz}
+use Rattle.nearest.specs.declared.Away.{Away}
 use Rattle.nearest.specs.declared.Ends.{Ends}
 use Rattle.nearest.specs.declared.Ends.the-variants.{Between, NoEnds, EndsRefused}
 use Rattle.nearest.specs.Choice.{zero64, smallest}
@@ -29,6 +30,13 @@ pointGap p q = distance2Xyz (p .x) (p .y) (p .z) (q .x) (q .y) (q .z)
 
 unfoldable pub gapFrom : (ℕ → Vertex) → ℕ → ℕ → Float
 gapFrom vs p v = pointGap (pointOf (vs p)) (pointOf (vs v))
+
+-- what the code holds of a vertex: its number, and its squared distance from a point
+abbrev pub awayAt : (ℕ → Vertex) → Xyz → ℕ → Away
+awayAt vs from v = record { vertex = v; gap = pointGap from (pointOf (vs v)) }
+
+abbrev pub gapOf : Away → Float
+gapOf a = a .gap
 
 -- the front of each use of a stretch
 unfoldable pub frontsOf : (ℕ → Edge) → List ℕ → List ℕ

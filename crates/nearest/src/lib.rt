@@ -9,7 +9,7 @@ ghost use Rattle.nearest.specs.Choice.{smaller};
 ghost use Rattle.nearest.specs.Unwrap.{candidatesOf, sizeOf, awayFrom, unwrapped, periodCauseOf, unwrapCause, saidUnwrapped, getMindiff};
 ghost use Rattle.nearest.specs.Copies.{firstShift, laterShifts, shiftsOf, shifted, copiesAlong, copiesOver, from, nearestCopyOf, copyCause, saidCopy, nearestCopySaid};
 ghost use Rattle.nearest.specs.Kinds.{isClosed, boundaryType, kindCauseOf, saidKind, boundaryTypeSaid, typeAt, typeCauseAt, isOpen, same, isWanted, wantedBelow, sortCause, saidSorted, unsorted, sortWires};
-ghost use Rattle.nearest.specs.Ends.{pointOf, pointGap, gapFrom, nearestFront, nearestEnds, saidEnds, tablesCause, stretchesCause, endsCause, nearestCorrection};
+ghost use Rattle.nearest.specs.Ends.{pointOf, pointGap, awayAt, gapOf, nearestFront, nearestEnds, saidEnds, tablesCause, stretchesCause, endsCause, nearestCorrection};
 ghost use Rattle.checks.specs.Causes.{lowestOf, verticesCause, edgesCause};
 ghost use Rattle.compress.specs.Rows.{edgeAt, vertexAt};
 ghost use Rattle.compress.specs.Records.{pick};
@@ -447,25 +447,33 @@ fn point_gap(p: Xyz, q: Xyz) -> f64
     floats::distance2_xyz(p.x, p.y, p.z, q.x, q.y, q.z)
 }
 
-// The squared distance of two vertices.
-fn gap_from(numbers: &[u32], floats: &[f64], p: u32, v: u32) -> f64
-    requires { ⌜ (p * 3 + 3 ≤ length (now numbers)) × (p * 7 + 7 ≤ length (now floats)) × (v * 3 + 3 ≤ length (now numbers)) × (v * 7 + 7 ≤ length (now floats)) ⌝ }
-    ensures { λ r. ⌜ r ≡ gapFrom (vertexAt (now (numbers .entry)) (now (floats .entry))) p v ⌝ }
+// The point of vertex v.
+fn point_at(numbers: &[u32], floats: &[f64], v: u32) -> Xyz
+    requires { ⌜ (v * 3 + 3 ≤ length (now numbers)) × (v * 7 + 7 ≤ length (now floats)) ⌝ }
+    ensures { λ r. ⌜ r ≡ pointOf (vertexAt (now (numbers .entry)) (now (floats .entry)) v) ⌝ }
 {
-    let a = point_of(compress::vertex_at(numbers, floats, p as usize));
-    let b = point_of(compress::vertex_at(numbers, floats, v as usize));
-    point_gap(a, b)
+    point_of(compress::vertex_at(numbers, floats, v as usize))
 }
 
-// Of two vertices the one that is nearer to p; a on a tie.
-fn nearer_vertex(numbers: &[u32], floats: &[f64], p: u32, a: u32, b: u32) -> u32
-    requires { ⌜ (p * 3 + 3 ≤ length (now numbers)) × (p * 7 + 7 ≤ length (now floats)) ⌝ }
-    requires { ⌜ (a * 3 + 3 ≤ length (now numbers)) × (a * 7 + 7 ≤ length (now floats)) × (b * 3 + 3 ≤ length (now numbers)) × (b * 7 + 7 ≤ length (now floats)) ⌝ }
-    ensures { λ r. ⌜ r ≡ smaller (gapFrom (vertexAt (now (numbers .entry)) (now (floats .entry))) p) a b ⌝ }
+// A vertex, with its squared distance from a point.
+pub struct Away {
+    pub vertex: u32,
+    pub gap: f64,
+}
+
+fn away_at(numbers: &[u32], floats: &[f64], from: Xyz, v: u32) -> Away
+    requires { ⌜ (v * 3 + 3 ≤ length (now numbers)) × (v * 7 + 7 ≤ length (now floats)) ⌝ }
+    ensures { λ r. ⌜ r ≡ awayAt (vertexAt (now (numbers .entry)) (now (floats .entry))) from v ⌝ }
 {
-    let gap_a = gap_from(numbers, floats, p, a);
-    let gap_b = gap_from(numbers, floats, p, b);
-    if gap_b < gap_a { b } else { a }
+    let gap = point_gap(from, point_at(numbers, floats, v));
+    Away { vertex: v, gap }
+}
+
+// Of two vertices the one that is less away; a on a tie.
+fn less_away(a: Away, b: Away) -> Away
+    ensures { λ r. ⌜ r ≡ smaller gapOf a b ⌝ }
+{
+    if b.gap < a.gap { b } else { a }
 }
 
 // The front of a stretch that is nearest to vertex p.
@@ -483,14 +491,16 @@ fn nearest_front(
     requires { ⌜ (0 < length (now stretch)) × (p < vertices) × ((k : ℕ) → k < length (now stretch) → getD (now stretch) k 0 / 2 < edges) ⌝ }
     ensures { λ r. ⌜ (r ≡ nearestFront (edgeAt (now («edge_numbers» .entry)) (now («edge_floats» .entry))) (vertexAt (now («vertex_numbers» .entry)) (now («vertex_floats» .entry))) p (getD (now (stretch .entry)) 0 0) (drop 1 (now (stretch .entry)))) × (r < vertices) ⌝ }
 {
-    let mut best = compress::front_at(edge_numbers, edge_floats, stretch[0]);
+    let from = point_at(vertex_numbers, vertex_floats, p);
+    let first = compress::front_at(edge_numbers, edge_floats, stretch[0]);
+    let mut best = away_at(vertex_numbers, vertex_floats, from, first);
     let mut i: usize = 1;
     while i < stretch.len() {
         let v = compress::front_at(edge_numbers, edge_floats, stretch[i]);
-        best = nearer_vertex(vertex_numbers, vertex_floats, p, best, v);
+        best = less_away(best, away_at(vertex_numbers, vertex_floats, from, v));
         i += 1;
     }
-    best
+    best.vertex
 }
 
 // Nearest ends of two stretches, over tables and stretches that were checked.
@@ -550,8 +560,11 @@ pub fn tables_cause(
 ) -> u32
     ensures { λ r. ⌜ r ≡ tablesCause (now («vertex_numbers» .entry)) (now («vertex_floats» .entry)) (now («edge_numbers» .entry)) (now («edge_floats» .entry)) vertices edges ⌝ }
 {
-    let v = checks::vertices(vertex_numbers, vertex_floats, vertices);
     let e = checks::edges(vertices, edge_numbers, edge_floats, edges);
+    if checks::are_points(vertex_numbers, vertex_floats, vertices) {
+        return e;
+    }
+    let v = checks::vertices(vertex_numbers, vertex_floats, vertices);
     let p = checks::pending(vertex_numbers, vertices);
     checks::lower(v, checks::lower(e, p))
 }

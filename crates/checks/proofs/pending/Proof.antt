@@ -1,5 +1,4 @@
 -- `checks::pending` meets its contract. Assumes nothing.
-use mathlib.Core.Path.{sym}
 use borrow.Author.Tests.{lt-ltb, le-ltb}
 use borrow.Author.Needs.{needs}
 use Rattle.checks.specs.Causes.{pendingCause}
@@ -17,19 +16,12 @@ returns-2 : tie.Need-returns-2
 unfolding pendingCause
 returns-2 c = simp (le-ltb _ _ (c .before .if1 .left), lt-ltb _ _ (c .if2 .taken))
 
-are-given-requires : tie.Need-are-given-requires
-are-given-requires c κs = search needs
-
-returns-3 : tie.Need-returns-3
-unfolding pendingCause
-returns-3 c = simp (le-ltb _ _ (c .before .before .before .if1 .left), le-ltb _ _ (c .before .before .if2 .left)) (sym (c .before .are-given .ensures (c .if3 .taken)))
-
 pending-rows-requires : tie.Need-pending-rows-requires
 pending-rows-requires c κs = search needs
 
-returns-4 : tie.Need-returns-4
+returns-3 : tie.Need-returns-3
 unfolding pendingCause
-returns-4 c = simp (le-ltb _ _ (c .before .before .before .before .if1 .left), le-ltb _ _ (c .before .before .before .if2 .left)) (c .pending-rows .ensures)
+returns-3 c = simp (le-ltb _ _ (c .before .before .if1 .left), le-ltb _ _ (c .before .if2 .left)) (c .pending-rows .ensures)
 
 pub pending-spec : {M : Type 1} → statement M
 pending-spec =
@@ -38,7 +30,5 @@ pending-spec =
     returns
     mul-if2
     returns-2
-    are-given-requires
-    returns-3
     pending-rows-requires
-    returns-4)
+    returns-3)

@@ -1,16 +1,14 @@
 -- `checks::pending_rows` meets its contract. Assumes nothing.
 use mathlib.Core.Path.{_≡_}
-use Prim.Native.Nat.{_≤_, _-_, _*_}
+use Prim.Native.Nat.{_≤_, _-_}
 use native.Mathlib.Omega.{arith}
-use lib.Dec.{eqb}
-use lib.ListN.{getD}
-use Rattle.checks.specs.Causes.{when, lowestOf}
+use Rattle.checks.specs.Causes.{lowestOf, pendingRowCause}
 use Rattle.checks.proofs.Lowest.{lowest-start, lowest-turn}
 use Rattle.checks.proofs.pending_rows.Statement.{statement}
 use Rattle.checks.proofs.pending_rows.Tie as tie
 
 abbrev Inv-loop : tie.InvT-loop
-Inv-loop numbers count least₀ i₀ least i = (i ≤ count) × (least ≡ lowestOf (λ k. when (eqb (getD numbers (k * 3) 0) 1) 7) i)
+Inv-loop numbers count least₀ i₀ least i = (i ≤ count) × (least ≡ lowestOf (pendingRowCause numbers) i)
 
 abbrev μ-loop : tie.MeasureT-loop
 μ-loop numbers count least₀ i₀ least i = count - i
@@ -42,7 +40,7 @@ loop-less c = omega arith
 loop-again : tie.Need-loop-again Inv-loop μ-loop
 loop-again c =
     let a = c .before .before .before .before .before .before .args in
-    (omega arith, lowest-turn (λ k. when (eqb (getD (a .numbers .now) (k * 3) 0) 1) 7) _ _ _ _ (c .before .before .before .before .loop .inv .1) (c .before .cause-when .ensures) (c .lower .ensures))
+    (omega arith, lowest-turn (pendingRowCause (a .numbers .now)) _ _ _ _ (c .before .before .before .before .loop .inv .1) (c .before .cause-when .ensures) (c .lower .ensures))
 
 returns : tie.Need-returns Inv-loop μ-loop
 returns c =

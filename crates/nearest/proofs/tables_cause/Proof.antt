@@ -1,14 +1,22 @@
+use Rattle.checks.proofs.Lowest.{lower-first, lower-last}
+use Rattle.nearest.specs.Ends.{tablesCause}
 -- `nearest::tables_cause` meets its contract. Assumes nothing.
 use borrow.Author.Needs.{needs}
-use Rattle.nearest.specs.Ends.{tablesCause}
 use Rattle.nearest.proofs.tables_cause.Statement.{statement}
 use Rattle.nearest.proofs.tables_cause.Tie as tie
 
-vertices-requires : tie.Need-vertices-requires
-vertices-requires c κs = search needs
-
 edges-requires : tie.Need-edges-requires
 edges-requires c κs = search needs
+
+are-points-requires : tie.Need-are-points-requires
+are-points-requires c κs = search needs
+
+returns : tie.Need-returns
+unfolding tablesCause
+returns c = let sound = c .before .are-points .ensures (c .if1 .taken) in rw (sound .0, sound .1, lower-first, lower-last) (c .before .before .edges .ensures)
+
+vertices-requires : tie.Need-vertices-requires
+vertices-requires c κs = search needs
 
 pending-requires : tie.Need-pending-requires
 pending-requires c κs = search needs
@@ -19,17 +27,19 @@ lower-requires c κs = search needs
 lower-requires-2 : tie.Need-lower-requires-2
 lower-requires-2 c κs = search needs
 
-returns : tie.Need-returns
+returns-2 : tie.Need-returns-2
 unfolding tablesCause
-returns c = cc
+returns-2 c = cc
 
 pub tables-cause-spec : {M : Type 1} → statement M
 tables-cause-spec =
     tie.close
     (tie.spec
-    vertices-requires
     edges-requires
+    are-points-requires
+    returns
+    vertices-requires
     pending-requires
     lower-requires
     lower-requires-2
-    returns)
+    returns-2)
