@@ -5,7 +5,6 @@ mod plate;
 mod shell;
 mod steps;
 mod tally;
-mod write;
 
 use libc::STDERR_FILENO;
 use libc::STDOUT_FILENO;
@@ -51,7 +50,7 @@ fn divided(out: i32, joined: Shell) -> Shell {
 fn main() {
     let is_picture = asks_picture();
     if os::arg_count() > 1 && !is_picture {
-        write::text(STDERR_FILENO, b"usage: pipe [svg]\n");
+        notation::text(STDERR_FILENO, b"usage: pipe [svg]\n");
         return;
     }
     let out = if is_picture {
@@ -59,7 +58,7 @@ fn main() {
     } else {
         STDOUT_FILENO
     };
-    write::text(out, b"burner pipe, radius 1, height 4:\n");
+    notation::text(out, b"burner pipe, radius 1, height 4:\n");
     let pipe = shell::burner_pipe();
     steps::write_shell(out, pipe, 0);
     let cut = steps::cut_rims(out, pipe);

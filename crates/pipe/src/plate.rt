@@ -1,7 +1,6 @@
 // A picture of the unrolled plate, as SVG: each contour in its own colour, an arrow and a number at each use.
 use crate::shell;
 use crate::steps;
-use crate::write;
 use compress::Uv;
 use libc::STDOUT_FILENO;
 use nearest::Period;
@@ -37,16 +36,16 @@ fn line_of_edge(numbers: &[u32], floats: &[f64], e: usize) -> Line {
     if e >= 4096 {
         return between(point(0.0, 0.0), point(0.0, 0.0));
     }
-    let u0 = write::float_at(floats, 6 * e);
-    let v0 = write::float_at(floats, 6 * e + 1);
-    let u1 = write::float_at(floats, 6 * e + 2);
-    let v1 = write::float_at(floats, 6 * e + 3);
-    let t0 = write::float_at(floats, 6 * e + 4);
-    let t1 = write::float_at(floats, 6 * e + 5);
-    if write::at(numbers, 4 * e + 2) == 1 {
+    let u0 = notation::float_at(floats, 6 * e);
+    let v0 = notation::float_at(floats, 6 * e + 1);
+    let u1 = notation::float_at(floats, 6 * e + 2);
+    let v1 = notation::float_at(floats, 6 * e + 3);
+    let t0 = notation::float_at(floats, 6 * e + 4);
+    let t1 = notation::float_at(floats, 6 * e + 5);
+    if notation::at(numbers, 4 * e + 2) == 1 {
         return between(point(u0, v0), point(u1, v1));
     }
-    let height = if write::at(numbers, 4 * e + 3) == 0 {
+    let height = if notation::at(numbers, 4 * e + 3) == 0 {
         0.0
     } else {
         shell::HEIGHT
@@ -92,7 +91,7 @@ fn sign(x: f64) -> f64 {
 
 // A number of pixels.
 fn write_pixel(x: f64) {
-    write::number(STDOUT_FILENO, write::rounded(x));
+    notation::number(STDOUT_FILENO, notation::rounded(x));
 }
 
 // The place of a uv point in the picture: half a turn lies on either side of the start of the turn.
@@ -107,56 +106,56 @@ fn y_of(p: Uv) -> f64 {
 // A point of the picture, as 60,460.
 fn write_point(x: f64, y: f64) {
     write_pixel(x);
-    write::text(STDOUT_FILENO, b",");
+    notation::text(STDOUT_FILENO, b",");
     write_pixel(y);
 }
 
 fn write_colour(k: usize) {
     match k % 4 {
-        0 => write::text(STDOUT_FILENO, b"#b03020"),
-        1 => write::text(STDOUT_FILENO, b"#1f5fa8"),
-        2 => write::text(STDOUT_FILENO, b"#2f7d32"),
-        _ => write::text(STDOUT_FILENO, b"#7a4aa0"),
+        0 => notation::text(STDOUT_FILENO, b"#b03020"),
+        1 => notation::text(STDOUT_FILENO, b"#1f5fa8"),
+        2 => notation::text(STDOUT_FILENO, b"#2f7d32"),
+        _ => notation::text(STDOUT_FILENO, b"#7a4aa0"),
     }
 }
 
 // The shaft of an arrow from one place to another.
 fn write_shaft(k: usize, x0: f64, y0: f64, x1: f64, y1: f64) {
-    write::text(STDOUT_FILENO, b"<polyline points=\"");
+    notation::text(STDOUT_FILENO, b"<polyline points=\"");
     write_point(x0, y0);
-    write::text(STDOUT_FILENO, b" ");
+    notation::text(STDOUT_FILENO, b" ");
     write_point(x1, y1);
-    write::text(STDOUT_FILENO, b"\" stroke-width=\"2\" stroke=\"");
+    notation::text(STDOUT_FILENO, b"\" stroke-width=\"2\" stroke=\"");
     write_colour(k);
-    write::text(STDOUT_FILENO, b"\"/>\n");
+    notation::text(STDOUT_FILENO, b"\"/>\n");
 }
 
 // The head of an arrow that ends at a place and goes along (dx, dy), which has the length 1.
 fn write_head(k: usize, x: f64, y: f64, dx: f64, dy: f64) {
-    write::text(STDOUT_FILENO, b"<polygon points=\"");
+    notation::text(STDOUT_FILENO, b"<polygon points=\"");
     write_point(x, y);
-    write::text(STDOUT_FILENO, b" ");
+    notation::text(STDOUT_FILENO, b" ");
     write_point(x - 12.0 * dx - 5.0 * dy, y - 12.0 * dy + 5.0 * dx);
-    write::text(STDOUT_FILENO, b" ");
+    notation::text(STDOUT_FILENO, b" ");
     write_point(x - 12.0 * dx + 5.0 * dy, y - 12.0 * dy - 5.0 * dx);
-    write::text(STDOUT_FILENO, b"\" fill=\"");
+    notation::text(STDOUT_FILENO, b"\" fill=\"");
     write_colour(k);
-    write::text(STDOUT_FILENO, b"\"/>\n");
+    notation::text(STDOUT_FILENO, b"\"/>\n");
 }
 
 // The number of a use in its contour, and the use.
 fn write_label(k: usize, x: f64, y: f64, i: usize, u: u32) {
-    write::text(STDOUT_FILENO, b"<text x=\"");
+    notation::text(STDOUT_FILENO, b"<text x=\"");
     write_pixel(x);
-    write::text(STDOUT_FILENO, b"\" y=\"");
+    notation::text(STDOUT_FILENO, b"\" y=\"");
     write_pixel(y);
-    write::text(STDOUT_FILENO, b"\" fill=\"");
+    notation::text(STDOUT_FILENO, b"\" fill=\"");
     write_colour(k);
-    write::text(STDOUT_FILENO, b"\">");
-    write::count(STDOUT_FILENO, i);
-    write::text(STDOUT_FILENO, b": ");
-    write::edge_use(STDOUT_FILENO, u);
-    write::text(STDOUT_FILENO, b"</text>\n");
+    notation::text(STDOUT_FILENO, b"\">");
+    notation::count(STDOUT_FILENO, i);
+    notation::text(STDOUT_FILENO, b": ");
+    notation::edge_use(STDOUT_FILENO, u);
+    notation::text(STDOUT_FILENO, b"</text>\n");
 }
 
 // A use of contour k, its number i: the arrow lies on the left of its edge, inside of the contour.
@@ -189,7 +188,7 @@ fn write_contour(k: usize, numbers: &[u32], floats: &[f64], uses: &[u32], n: usi
     let mut at = 0.0f64;
     let mut i: usize = 0;
     while i < n {
-        let u = write::at(uses, i);
+        let u = notation::at(uses, i);
         let l = unwrapped(line_of_use(numbers, floats, u), at);
         write_arrow(k, l, i + 1, u);
         at = l.to.u;
@@ -199,19 +198,19 @@ fn write_contour(k: usize, numbers: &[u32], floats: &[f64], uses: &[u32], n: usi
 
 // What stands before the contours: the size of the picture, and the plate.
 fn write_beginning() {
-    write::text(
+    notation::text(
         STDOUT_FILENO,
         b"<svg xmlns=\"http://www.w3.org/2000/svg\" width=\"748\" height=\"520\" viewBox=\"0 0 748 520\" ",
     );
-    write::text(
+    notation::text(
         STDOUT_FILENO,
         b"font-family=\"sans-serif\" font-size=\"14\" text-anchor=\"middle\" dominant-baseline=\"middle\">\n",
     );
-    write::text(
+    notation::text(
         STDOUT_FILENO,
         b"<title>Burner pipe, unrolled: the contours that the torch follows</title>\n",
     );
-    write::text(
+    notation::text(
         STDOUT_FILENO,
         b"<rect x=\"60\" y=\"60\" width=\"628\" height=\"400\" fill=\"#f3f3f3\" stroke=\"#888888\"/>\n",
     );
@@ -228,11 +227,11 @@ pub fn write_plate(edges: Edges, wires: Wires) {
     let mut from: usize = 0;
     let mut k: usize = 0;
     while k < count {
-        let n = write::length_at(&lengths, k);
+        let n = notation::length_at(&lengths, k);
         let contour = steps::uses_from(&uses, from);
         write_contour(k, &numbers, &floats, &contour, n);
-        from = write::plus(from, n);
+        from = notation::plus(from, n);
         k += 1;
     }
-    write::text(STDOUT_FILENO, b"</svg>\n");
+    notation::text(STDOUT_FILENO, b"</svg>\n");
 }

@@ -1,6 +1,5 @@
 // The steps of the healing, each a call of the port: what it answers is written, and the shell comes back as the step leaves it.
 use crate::shell;
-use crate::write;
 use compress::Refusal;
 use join::Join;
 use nearest::Ends;
@@ -29,9 +28,9 @@ const NOT_FOUND: Divisor = Divisor {
 
 // The step's line where it is turned away.
 fn write_refusal(out: i32, r: Refusal) {
-    write::text(out, b" refused, number ");
-    write::number(out, compress::refusal_number(r));
-    write::text(out, b"\n");
+    notation::text(out, b" refused, number ");
+    notation::number(out, compress::refusal_number(r));
+    notation::text(out, b"\n");
 }
 
 // An edge with its two vertices, as 5 = (2, 3).
@@ -39,33 +38,33 @@ fn write_edge(out: i32, numbers: &[u32], e: usize) {
     if e >= 4096 {
         return;
     }
-    write::number(out, e as u32);
-    write::text(out, b" = (");
-    write::number(out, write::at(numbers, 4 * e));
-    write::text(out, b", ");
-    write::number(out, write::at(numbers, 4 * e + 1));
-    write::text(out, b")");
+    notation::number(out, e as u32);
+    notation::text(out, b" = (");
+    notation::number(out, notation::at(numbers, 4 * e));
+    notation::text(out, b", ");
+    notation::number(out, notation::at(numbers, 4 * e + 1));
+    notation::text(out, b")");
 }
 
 // The edges from one number up to another.
 fn write_edges(out: i32, numbers: &[u32], from: usize, to: usize) {
-    write::text(out, b"   edges");
+    notation::text(out, b"   edges");
     let mut e = from;
     while e < to {
-        write::text(out, b" ");
+        notation::text(out, b" ");
         write_edge(out, numbers, e);
         e += 1;
     }
-    write::text(out, b"\n");
+    notation::text(out, b"\n");
 }
 
 // The wires, a stroke between them.
 pub fn write_wires(out: i32, w: Wires) {
     let uses = w.uses;
     let lengths = w.lengths;
-    write::text(out, b"   wires");
-    write::wires(out, &uses, &lengths, w.count);
-    write::text(out, b"\n");
+    notation::text(out, b"   wires");
+    notation::wires(out, &uses, &lengths, w.count);
+    notation::text(out, b"\n");
 }
 
 // The edges from a number on, and the wires.
@@ -89,7 +88,7 @@ fn after_pass(out: i32, answer: Split, s: Shell) -> Shell {
             edges,
             uses: _,
         } => {
-            write::text(out, b" the rims are cut, the new vertices evaluated\n");
+            notation::text(out, b" the rims are cut, the new vertices evaluated\n");
             let table = shell::counted(s.edges, edges);
             shell::shell_of(shell::given(vertices), table, s.wires)
         }
@@ -98,7 +97,7 @@ fn after_pass(out: i32, answer: Split, s: Shell) -> Shell {
 
 // Cuts the rims.
 pub fn cut_rims(out: i32, s: Shell) -> Shell {
-    write::text(out, b"1. closed-edge pass:");
+    notation::text(out, b"1. closed-edge pass:");
     let mut vertex_numbers = s.vertices.numbers;
     let mut vertex_floats = s.vertices.floats;
     let mut edge_numbers = s.edges.numbers;
@@ -126,23 +125,23 @@ pub fn cut_rims(out: i32, s: Shell) -> Shell {
 
 // Sorts the wires; whether just the two rims are open.
 pub fn sort(out: i32, s: Shell) -> bool {
-    write::text(out, b"2. sorting of wires:");
+    notation::text(out, b"2. sorting of wires:");
     let ends = shell::ends_of_wires();
     let mut opens = [0u32; 2];
     let mut closed = [0u32; 2];
     match nearest::sort_wires(&ends, s.wires.count, &mut opens, &mut closed) {
         Sorted::Two(n) => {
-            write::text(out, b" wires ");
-            write::number(out, opens[0]);
-            write::text(out, b" and ");
-            write::number(out, opens[1]);
-            write::text(out, b" are open, ");
-            write::count(out, n);
-            write::text(out, b" closed\n");
+            notation::text(out, b" wires ");
+            notation::number(out, opens[0]);
+            notation::text(out, b" and ");
+            notation::number(out, opens[1]);
+            notation::text(out, b" are open, ");
+            notation::count(out, n);
+            notation::text(out, b" closed\n");
             (opens[0] == 0) & (opens[1] == 1)
         }
         Sorted::Nothing => {
-            write::text(out, b" none\n");
+            notation::text(out, b" none\n");
             false
         }
         Sorted::Unsorted(r) => {
@@ -156,11 +155,11 @@ pub fn sort(out: i32, s: Shell) -> bool {
 fn divisor_of(out: i32, answer: Ends) -> Divisor {
     match answer {
         Ends::Between(v0, v1) => {
-            write::text(out, b" vertices ");
-            write::number(out, v0);
-            write::text(out, b" and ");
-            write::number(out, v1);
-            write::text(out, b"\n");
+            notation::text(out, b" vertices ");
+            notation::number(out, v0);
+            notation::text(out, b" and ");
+            notation::number(out, v1);
+            notation::text(out, b"\n");
             Divisor {
                 v0,
                 v1,
@@ -168,7 +167,7 @@ fn divisor_of(out: i32, answer: Ends) -> Divisor {
             }
         }
         Ends::NoEnds => {
-            write::text(out, b" none\n");
+            notation::text(out, b" none\n");
             NOT_FOUND
         }
         Ends::EndsRefused(r) => {
@@ -183,7 +182,7 @@ pub fn uses_from(uses: &[u32], from: usize) -> [u32; 8] {
     let mut wire = [0u32; 8];
     let mut i: usize = 0;
     while i < 8 {
-        wire[i] = write::at(uses, write::plus(from, i));
+        wire[i] = notation::at(uses, notation::plus(from, i));
         i += 1;
     }
     wire
@@ -192,7 +191,7 @@ pub fn uses_from(uses: &[u32], from: usize) -> [u32; 8] {
 // The length of wire k.
 fn length_of(w: Wires, k: usize) -> usize {
     let lengths = w.lengths;
-    write::length_at(&lengths, k)
+    notation::length_at(&lengths, k)
 }
 
 // The second wire.
@@ -203,7 +202,7 @@ fn second_of(w: Wires) -> [u32; 8] {
 
 // The nearest ends of the two rims, from vertex 0 on, where the turn begins.
 pub fn nearest_ends(out: i32, s: Shell) -> Divisor {
-    write::text(out, b"3. nearest ends:");
+    notation::text(out, b"3. nearest ends:");
     let vertex_numbers = s.vertices.numbers;
     let vertex_floats = s.vertices.floats;
     let edge_numbers = s.edges.numbers;
@@ -252,7 +251,7 @@ fn after_split(out: i32, answer: Boundaries, s: Shell) -> Shell {
             uses: _,
             edges,
         } => {
-            write::text(out, b" a seam, and the wires along it\n");
+            notation::text(out, b" a seam, and the wires along it\n");
             let table = shell::counted(s.edges, edges);
             let built = shell::wires_counted(s.wires, wires);
             shell::shell_of(s.vertices, table, built)
@@ -294,13 +293,13 @@ fn split_along(out: i32, s: Shell, d: Divisor, rebuilt: usize) -> Shell {
 
 // Splits with the seam between the rims. Both rims are open, so that no wire is to be rebuilt.
 pub fn split_seam(out: i32, s: Shell, d: Divisor) -> Shell {
-    write::text(out, b"4. split with the seam:");
+    notation::text(out, b"4. split with the seam:");
     split_along(out, s, d, 0)
 }
 
 // Splits along the vertices that the search has found. All wires are to be rebuilt.
 pub fn split_again(out: i32, s: Shell, d: Divisor) -> Shell {
-    write::text(out, b"7. second split:");
+    notation::text(out, b"7. second split:");
     split_along(out, s, d, s.wires.count)
 }
 
@@ -310,11 +309,11 @@ pub fn split_again(out: i32, s: Shell, d: Divisor) -> Shell {
 fn after_join(out: i32, answer: Join, s: Shell) -> Shell {
     match answer {
         Join::Joined(_) => {
-            write::text(out, b" the rims and the seam are one wire\n");
+            notation::text(out, b" the rims and the seam are one wire\n");
             s
         }
         Join::NoJoin => {
-            write::text(out, b" none\n");
+            notation::text(out, b" none\n");
             shell::stopped(s)
         }
         Join::JoinRefused(r) => {
@@ -360,7 +359,7 @@ fn join_open(
 
 // Joins the two rims with the seam's wire, which the shell has now.
 pub fn join_rims(out: i32, rims: Wires, s: Shell, d: Divisor) -> Shell {
-    write::text(out, b"5. join:");
+    notation::text(out, b"5. join:");
     let n = length_of(rims, 0);
     let m = length_of(rims, 1);
     let first = rims.uses;
@@ -370,7 +369,7 @@ pub fn join_rims(out: i32, rims: Wires, s: Shell, d: Divisor) -> Shell {
 
 // The two vertices that divide the wire that uses the seam twice.
 pub fn search(out: i32, s: Shell) -> Divisor {
-    write::text(out, b"6. non-simple search:");
+    notation::text(out, b"6. non-simple search:");
     let vertex_numbers = s.vertices.numbers;
     let vertex_floats = s.vertices.floats;
     let edge_numbers = s.edges.numbers;

@@ -1,8 +1,8 @@
 // Replays one stored call of cut_edge_by_intersections.
-use crate::cells;
 use crate::pass;
-use crate::words;
 use pass::Counts;
+use stored::cells;
+use stored::words;
 use words::MOST;
 use words::Place;
 

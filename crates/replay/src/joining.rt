@@ -1,9 +1,9 @@
 // Replays one stored call of connect_open_boundaries.
-use crate::answers;
-use crate::cells;
-use crate::words;
 use answers::Answer;
 use join::Join;
+use stored::answers;
+use stored::cells;
+use stored::words;
 use words::MOST;
 use words::Place;
 

@@ -4,8 +4,6 @@
 // call was handed, and what it answered and left. The length of a buffer stands before its cells; in the records of
 // split_closed_edges the lengths of all six stand before the cells of all. The number 0 ends the list. Behind it stands a second
 // list, of altered records: in each, one word of what the call answered and left is another, so none of them is the same.
-mod answers;
-mod cells;
 mod cutting;
 mod dividing;
 mod joining;
@@ -13,9 +11,9 @@ mod numbers;
 mod pass;
 mod search;
 mod sorting;
-mod words;
 
 use libc::STDOUT_FILENO;
+use stored::words;
 use words::Place;
 
 // How many tallies there are: one for all altered records, and one for each kind of call, in the place of its number.

@@ -1,13 +1,13 @@
 // Replays one stored call of those that are handed no buffer: get_mindiff, nearest_copy and boundary_type.
-ghost use Rattle.replay.specs.Compared.{Remembers};
-use crate::cells;
-use crate::words;
+ghost use Rattle.stored.specs.Compared.{Remembers};
 use compress::Uv;
 use nearest::BoundaryType;
 use nearest::NearestCopy;
 use nearest::Period;
 use nearest::Unwrapped;
 use nearest::WireKind;
+use stored::cells;
+use stored::words;
 use words::Place;
 
 // The number of the refusal that a period gets whose kind is neither 0 nor 1. No call can be handed such a period.

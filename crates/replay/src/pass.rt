@@ -1,10 +1,10 @@
 // Replays one stored call of split_closed_edges.
-ghost use Rattle.replay.specs.Compared.{Remembers};
-use crate::answers;
-use crate::cells;
-use crate::words;
+ghost use Rattle.stored.specs.Compared.{Remembers};
 use answers::Answer;
 use split_closed_edges::Split;
+use stored::answers;
+use stored::cells;
+use stored::words;
 use words::MOST;
 use words::Place;
 

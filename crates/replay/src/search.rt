@@ -1,10 +1,10 @@
 // Replays one stored call of those that answer with two vertices: nearest_correction and find_non_simple_wire_divisor.
-use crate::answers;
-use crate::cells;
 use crate::pass;
-use crate::words;
 use answers::Answer;
 use nearest::Ends;
+use stored::answers;
+use stored::cells;
+use stored::words;
 use words::MOST;
 use words::Place;
 

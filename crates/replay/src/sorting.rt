@@ -1,9 +1,9 @@
 // Replays one stored call of sort_wires.
-use crate::answers;
-use crate::cells;
-use crate::words;
 use answers::Answer;
 use nearest::Sorted;
+use stored::answers;
+use stored::cells;
+use stored::words;
 use words::MOST;
 use words::Place;
 
