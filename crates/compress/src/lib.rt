@@ -114,14 +114,18 @@ pub fn refusal_of(cause: u32) -> Refusal
 pub fn front(e: Edge, u: u32) -> u32
     ensures { λ r. ⌜ r ≡ frontOf e u ⌝ }
 {
-    if u % 2 == 0 { e.front } else { e.back }
+    let first = e.front;
+    let second = e.back;
+    if u % 2 == 0 { first } else { second }
 }
 
 // The vertex at which the use `u` of the edge ends.
 pub fn back(e: Edge, u: u32) -> u32
     ensures { λ r. ⌜ r ≡ backOf e u ⌝ }
 {
-    if u % 2 == 0 { e.back } else { e.front }
+    let first = e.front;
+    let second = e.back;
+    if u % 2 == 0 { second } else { first }
 }
 
 // ---- records put together from the cells of a row
