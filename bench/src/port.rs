@@ -2,8 +2,7 @@
 //! Rust module.
 
 use kaugrenna::lent::END_FLOATS;
-use kaugrenna::{Cuts, Divisor, Edges, EdgesMut, Refusal, Room, Tables, TablesMut};
-use kaugrenna::{Wires, WiresMut};
+use kaugrenna::{Cuts, Divisor, OwnedTables, OwnedWires, Refusal, Room};
 use oracle::healing::prepared::{Groups, Ready};
 use oracle::healing::Rebuilt;
 use oracle::random::Random;
@@ -13,15 +12,8 @@ use oracle::shell::{needed, Lent};
 /// The slices of a shell.
 #[derive(Clone)]
 struct Slices {
-    vertex_numbers: Vec<u32>,
-    vertex_floats: Vec<f64>,
-    edge_numbers: Vec<u32>,
-    edge_floats: Vec<f64>,
-    uses: Vec<u32>,
-    lengths: Vec<u32>,
-    vertices: usize,
-    edges: usize,
-    wires: usize,
+    tables: OwnedTables,
+    wires: OwnedWires,
 }
 
 impl Slices {
@@ -32,72 +24,52 @@ impl Slices {
         let sizes = needed(room, shell.wires.len());
         let lent = Lent::holding(shell, sizes, &mut Random::new(4, 0, 0));
         let floats = |bits: &[u64]| bits.iter().map(|&bits| f64::from_bits(bits)).collect();
-        Slices {
+        let tables = OwnedTables {
             vertex_floats: floats(&lent.tables.vertex_floats),
             edge_floats: floats(&lent.tables.edge_floats),
             vertex_numbers: lent.tables.vertex_numbers,
             edge_numbers: lent.tables.edge_numbers,
-            uses: lent.uses,
-            lengths: lent.lengths,
             vertices,
             edges,
-            wires: shell.wires.len(),
-        }
+        };
+        let wires = OwnedWires {
+            uses: lent.uses,
+            lengths: lent.lengths,
+            count: shell.wires.len(),
+        };
+        Slices { tables, wires }
     }
 
     fn renew(&mut self, from: &Slices) {
-        self.vertex_numbers.copy_from_slice(&from.vertex_numbers);
-        self.vertex_floats.copy_from_slice(&from.vertex_floats);
-        self.edge_numbers.copy_from_slice(&from.edge_numbers);
-        self.edge_floats.copy_from_slice(&from.edge_floats);
-        self.uses.copy_from_slice(&from.uses);
-        self.lengths.copy_from_slice(&from.lengths);
+        let (tables, old) = (&mut self.tables, &from.tables);
+        tables.vertex_numbers.copy_from_slice(&old.vertex_numbers);
+        tables.vertex_floats.copy_from_slice(&old.vertex_floats);
+        tables.edge_numbers.copy_from_slice(&old.edge_numbers);
+        tables.edge_floats.copy_from_slice(&old.edge_floats);
+        self.renew_wires(from);
     }
 
-    fn lend(&mut self) -> (TablesMut<'_>, WiresMut<'_>) {
-        let tables = TablesMut {
-            vertex_numbers: &mut self.vertex_numbers,
-            vertex_floats: &mut self.vertex_floats,
-            edge_numbers: &mut self.edge_numbers,
-            edge_floats: &mut self.edge_floats,
-            vertices: self.vertices,
-            edges: self.edges,
-        };
-        let wires = WiresMut {
-            uses: &mut self.uses,
-            lengths: &mut self.lengths,
-            count: self.wires,
-        };
-        (tables, wires)
-    }
-
-    fn tables(&self) -> Tables<'_> {
-        Tables {
-            vertex_numbers: &self.vertex_numbers,
-            vertex_floats: &self.vertex_floats,
-            edge_numbers: &self.edge_numbers,
-            edge_floats: &self.edge_floats,
-            vertices: self.vertices,
-            edges: self.edges,
-        }
+    fn renew_wires(&mut self, from: &Slices) {
+        self.wires.uses.copy_from_slice(&from.wires.uses);
+        self.wires.lengths.copy_from_slice(&from.wires.lengths);
     }
 
     /// The records of so many vertices and edges, and the wires.
-    fn read(&self, vertices: usize, edges: usize, wires: usize) -> Shell {
+    fn read(&self, vertices: usize, edges: usize, wires: &OwnedWires) -> Shell {
         let bits = |floats: &[f64]| floats.iter().map(|float| float.to_bits()).collect();
         let tables = oracle::shell::Tables {
-            vertex_numbers: self.vertex_numbers.clone(),
-            vertex_floats: bits(&self.vertex_floats),
-            edge_numbers: self.edge_numbers.clone(),
-            edge_floats: bits(&self.edge_floats),
+            vertex_numbers: self.tables.vertex_numbers.clone(),
+            vertex_floats: bits(&self.tables.vertex_floats),
+            edge_numbers: self.tables.edge_numbers.clone(),
+            edge_floats: bits(&self.tables.edge_floats),
             vertices,
             edges,
         };
         let lent = Lent {
             tables,
-            uses: self.uses.clone(),
-            lengths: self.lengths.clone(),
-            wires,
+            uses: wires.uses.clone(),
+            lengths: wires.lengths.clone(),
+            wires: wires.count,
         };
         lent.read()
     }
@@ -130,14 +102,14 @@ impl Ready for Pass {
     }
 
     fn run(&mut self) {
-        let (tables, wires) = self.slices.lend();
-        self.said = kaugrenna::split_closed_edges(tables, wires);
+        let Slices { tables, wires } = &mut self.slices;
+        self.said = kaugrenna::split_closed_edges(tables.lend_mut(), wires.lend_mut());
     }
 
     fn answer(&self) -> Shell {
         let counts = self.said.expect(ACCEPTED);
-        self.slices
-            .read(counts.vertices, counts.edges, self.slices.wires)
+        let wires = &self.slices.wires;
+        self.slices.read(counts.vertices, counts.edges, wires)
     }
 }
 
@@ -172,14 +144,14 @@ impl Ready for OneCut {
             floats: &self.cut,
             count: 1,
         };
-        let (tables, wires) = self.slices.lend();
+        let (tables, wires) = (self.slices.tables.lend_mut(), self.slices.wires.lend_mut());
         self.said = kaugrenna::cut_edge_by_intersections(tables, wires, cuts, self.edge);
     }
 
     fn answer(&self) -> Shell {
         let counts = self.said.expect(ACCEPTED);
-        self.slices
-            .read(counts.vertices, counts.edges, self.slices.wires)
+        let wires = &self.slices.wires;
+        self.slices.read(counts.vertices, counts.edges, wires)
     }
 }
 
@@ -298,8 +270,9 @@ impl Ready for NearestEnds {
     type Answer = Option<[u32; 2]>;
 
     fn run(&mut self) {
-        let (first, second) = self.slices.uses.split_at(self.slices.lengths[0] as usize);
-        let tables = self.slices.tables();
+        let Slices { tables, wires } = &self.slices;
+        let (first, second) = wires.uses.split_at(wires.lengths[0] as usize);
+        let tables = tables.lend();
         self.said = kaugrenna::nearest_correction(tables, first.into(), second.into(), self.v0);
     }
 
@@ -327,12 +300,8 @@ impl Ready for Search {
     type Answer = Option<[u32; 2]>;
 
     fn run(&mut self) {
-        let wires = Wires {
-            uses: &self.slices.uses,
-            lengths: &self.slices.lengths,
-            count: self.slices.wires,
-        };
-        self.said = kaugrenna::find_non_simple_wire_divisor(self.slices.tables(), wires);
+        let Slices { tables, wires } = &self.slices;
+        self.said = kaugrenna::find_non_simple_wire_divisor(tables.lend(), wires.lend());
     }
 
     fn answer(&self) -> Option<[u32; 2]> {
@@ -346,22 +315,25 @@ pub struct Split {
     list: Vec<u32>,
     points: Vec<f64>,
     surface: u32,
-    uses: Vec<u32>,
-    lengths: Vec<u32>,
+    built: OwnedWires,
     said: Result<kaugrenna::Rebuilt, Refusal>,
 }
 
 impl Split {
     pub fn of(shell: &Shell, list: &[(u32, [f64; 2])], surface: u32) -> Self {
         let slices = Slices::of(shell, list.len() / 2, 0);
-        let room = vec![u32::MAX; slices.uses.len() + list.len()];
+        let room = vec![u32::MAX; slices.wires.uses.len() + list.len()];
+        let built = OwnedWires {
+            uses: room.clone(),
+            lengths: room,
+            count: 0,
+        };
         Split {
             slices,
             list: list.iter().map(|&(vertex, _)| vertex).collect(),
             points: list.iter().flat_map(|&(_, point)| point).collect(),
             surface,
-            uses: room.clone(),
-            lengths: room,
+            built,
             said: Err(Refusal::Malformed),
         }
     }
@@ -375,18 +347,6 @@ impl Ready for Split {
     }
 
     fn run(&mut self) {
-        let slices = &mut self.slices;
-        let edges = EdgesMut {
-            numbers: &mut slices.edge_numbers,
-            floats: &mut slices.edge_floats,
-            count: slices.edges,
-            vertices: slices.vertices,
-        };
-        let face = Wires {
-            uses: &slices.uses,
-            lengths: &slices.lengths,
-            count: slices.wires,
-        };
         let divisor = Divisor {
             vertices: &self.list,
             points: &self.points,
@@ -394,20 +354,21 @@ impl Ready for Split {
             surface: self.surface,
         };
         let room = Room {
-            uses: &mut self.uses,
-            lengths: &mut self.lengths,
+            uses: &mut self.built.uses,
+            lengths: &mut self.built.lengths,
         };
-        self.said = kaugrenna::split_boundaries_by_divisor(edges, [face, face], divisor, room);
+        let Slices { tables, wires } = &mut self.slices;
+        let (edges, both) = (tables.edges_mut(), [wires.lend(); 2]);
+        self.said = kaugrenna::split_boundaries_by_divisor(edges, both, divisor, room);
     }
 
     fn answer(&self) -> Rebuilt {
         let rebuilt = self.said.expect(ACCEPTED);
-        let slices = Slices {
-            uses: self.uses.clone(),
-            lengths: self.lengths.clone(),
-            ..self.slices.clone()
+        let built = OwnedWires {
+            count: rebuilt.wires,
+            ..self.built.clone()
         };
-        let shell = slices.read(0, rebuilt.edges, rebuilt.wires);
+        let shell = self.slices.read(0, rebuilt.edges, &built);
         (shell.edges, shell.wires)
     }
 }
@@ -441,29 +402,18 @@ impl Ready for Join {
     type Answer = Option<Vec<Vec<u32>>>;
 
     fn renew(&mut self, from: &Self) {
-        self.slices.uses.copy_from_slice(&from.slices.uses);
-        self.slices.lengths.copy_from_slice(&from.slices.lengths);
+        self.slices.renew_wires(&from.slices);
     }
 
     fn run(&mut self) {
-        let slices = &mut self.slices;
-        let edges = Edges {
-            numbers: &slices.edge_numbers,
-            floats: &slices.edge_floats,
-            count: slices.edges,
-            vertices: slices.vertices,
-        };
-        let new = WiresMut {
-            uses: &mut slices.uses,
-            lengths: &mut slices.lengths,
-            count: slices.wires,
-        };
+        let Slices { tables, wires } = &mut self.slices;
+        let (edges, new) = (tables.edges(), wires.lend_mut());
         let open = self.open.each_ref().map(|uses| uses[..].into());
         self.said = kaugrenna::connect_open_boundaries(edges, open, new, self.ends);
     }
 
     fn answer(&self) -> Option<Vec<Vec<u32>>> {
         self.said.expect(ACCEPTED).expect(RESULT);
-        Some(self.slices.read(0, 0, self.slices.wires).wires)
+        Some(self.slices.read(0, 0, &self.slices.wires).wires)
     }
 }

@@ -10,6 +10,7 @@
 mod calls;
 mod edge_use;
 pub mod lent;
+mod owned;
 pub mod raw;
 mod refusal;
 
@@ -17,4 +18,5 @@ pub use calls::*;
 pub use edge_use::{NoUse, Use};
 pub use lent::{Cuts, Divisor, Edges, EdgesMut, Room, Stretch};
 pub use lent::{Tables, TablesMut, Wires, WiresMut};
+pub use owned::{OwnedTables, OwnedWires};
 pub use refusal::Refusal;

@@ -63,8 +63,8 @@ fn lookups(v0: u32, change: impl Fn(&mut Shell)) -> [Option<Refusal>; 2] {
     let before = shell.cells();
     let [first, second] = ["3+ 4+", "1+ 2+"].map(wire);
     let (first, second) = (first[..].into(), second[..].into());
-    let ends = nearest_correction(shell.tables(), first, second, v0).err();
-    let search = find_non_simple_wire_divisor(shell.tables(), shell.wires()).err();
+    let ends = nearest_correction(shell.tables.lend(), first, second, v0).err();
+    let search = find_non_simple_wire_divisor(shell.tables.lend(), shell.wires.lend()).err();
     assert_eq!(shell.cells(), before);
     [ends, search]
 }
@@ -73,19 +73,19 @@ fn lookups(v0: u32, change: impl Fn(&mut Shell)) -> [Option<Refusal>; 2] {
 fn refusals_of_the_pass() {
     assert_eq!(pass(|_| ()), None);
     let malformed = Some(Refusal::Malformed);
-    assert_eq!(pass(|shell| shell.wires = usize::MAX), malformed);
-    assert_eq!(pass(|shell| shell.vertex_numbers[0] = 2), malformed);
-    assert_eq!(pass(|shell| shell.lengths[0] = 3), malformed);
+    assert_eq!(pass(|s| s.wires.count = usize::MAX), malformed);
+    assert_eq!(pass(|s| s.tables.vertex_numbers[0] = 2), malformed);
+    assert_eq!(pass(|s| s.wires.lengths[0] = 3), malformed);
     let vertex_number = Some(Refusal::VertexNumber);
-    assert_eq!(pass(|shell| shell.edge_numbers[1] = 1), vertex_number);
-    assert_eq!(pass(|shell| shell.uses[0] = 2), Some(Refusal::EdgeNumber));
+    assert_eq!(pass(|s| s.tables.edge_numbers[1] = 1), vertex_number);
+    assert_eq!(pass(|s| s.wires.uses[0] = 2), Some(Refusal::EdgeNumber));
     let not_sized = Some(Refusal::NotSized);
-    assert_eq!(pass(|shell| shell.edge_floats[5] = f64::NAN), not_sized);
+    assert_eq!(pass(|s| s.tables.edge_floats[5] = f64::NAN), not_sized);
     let out_of_range = Some(Refusal::OutOfRange);
-    assert_eq!(pass(|shell| shell.edge_floats[5] = -1.0), out_of_range);
+    assert_eq!(pass(|s| s.tables.edge_floats[5] = -1.0), out_of_range);
     let no_room = Some(Refusal::NoRoom);
-    assert_eq!(pass(|shell| shell.vertex_numbers.truncate(5)), no_room);
-    assert_eq!(pass(|shell| shell.uses.truncate(1)), no_room);
+    assert_eq!(pass(|s| s.tables.vertex_numbers.truncate(5)), no_room);
+    assert_eq!(pass(|s| s.wires.uses.truncate(1)), no_room);
 }
 
 #[test]
@@ -138,19 +138,19 @@ fn refusals_of_the_sorting() {
 fn refusals_of_nearest_ends_and_of_the_search() {
     let both = |refusal| [Some(refusal); 2];
     assert_eq!(lookups(3, |_| ()), [None, None]);
-    let too_many = |shell: &mut Shell| shell.vertices = 5;
+    let too_many = |shell: &mut Shell| shell.tables.vertices = 5;
     assert_eq!(lookups(3, too_many), both(Refusal::Malformed));
     assert_eq!(lookups(4, |_| ()), [Some(Refusal::VertexNumber), None]);
-    let few_edges = |shell: &mut Shell| shell.edges = 4;
+    let few_edges = |shell: &mut Shell| shell.tables.edges = 4;
     assert_eq!(lookups(3, few_edges), both(Refusal::EdgeNumber));
     let pending = |shell: &mut Shell| {
-        shell.vertex_numbers[..3].copy_from_slice(&[1, 0, 7]);
-        shell.vertex_floats[..7].fill(0.0);
+        shell.tables.vertex_numbers[..3].copy_from_slice(&[1, 0, 7]);
+        shell.tables.vertex_floats[..7].fill(0.0);
     };
     assert_eq!(lookups(3, pending), both(Refusal::PendingVertex));
     let past_end = |shell: &mut Shell| {
-        shell.uses = wire("0+ 1+ 0-");
-        shell.lengths[0] = 3;
+        shell.wires.uses = wire("0+ 1+ 0-");
+        shell.wires.lengths[0] = 3;
     };
     assert_eq!(lookups(3, past_end), [None, Some(Refusal::PastEnd)]);
 }
@@ -171,11 +171,11 @@ fn refusals_of_the_split() {
     assert_eq!(split(odd), Some(Refusal::OddDivisor));
     let repeated = Some(Refusal::RepeatedVertex);
     assert_eq!(split(|split| split.list[1] = 3), repeated);
-    let dead_end = |split: &mut Split| split.shell.lengths[0] = 1;
+    let dead_end = |split: &mut Split| split.shell.wires.lengths[0] = 1;
     assert_eq!(split(dead_end), Some(Refusal::DeadEnd));
     let crowd = |split: &mut Split| {
-        split.shell.uses = wire("1+ 2+ 2+ 2+");
-        split.shell.lengths[0] = 4;
+        split.shell.wires.uses = wire("1+ 2+ 2+ 2+");
+        split.shell.wires.lengths[0] = 4;
         split.list.clear();
     };
     assert_eq!(split(crowd), Some(Refusal::TooManyUses));

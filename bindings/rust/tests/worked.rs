@@ -24,14 +24,15 @@ fn k1_and_k2_a_closed_edge_is_cut() {
             uses: 2,
         };
         assert_eq!(split_closed_edges(tables, wires), Ok(counts));
-        assert_eq!(shell.edge_numbers[..9], [0, 1, 0, 7, 1, 0, 0, 7, MARK]);
-        let ranges = [&shell.edge_floats[4..6], &shell.edge_floats[10..12]];
+        let Shell { tables, wires } = shell;
+        assert_eq!(tables.edge_numbers[..9], [0, 1, 0, 7, 1, 0, 0, 7, MARK]);
+        let ranges = [&tables.edge_floats[4..6], &tables.edge_floats[10..12]];
         assert_eq!(ranges, [[0.0, 4.0], [4.0, 8.0]]);
-        assert_eq!(shell.vertex_numbers[3..7], [1, 0, 7, MARK]);
-        assert_eq!(shell.vertex_floats[11..14], [0.0, 8.0, 4.0]);
-        assert_eq!(shell.vertex_floats[14].to_bits(), FLOAT_MARK);
-        assert_eq!(shell.uses[..2], wire(after));
-        assert_eq!((shell.uses[2], &shell.lengths[..2]), (MARK, &[2, MARK][..]));
+        assert_eq!(tables.vertex_numbers[3..7], [1, 0, 7, MARK]);
+        assert_eq!(tables.vertex_floats[11..14], [0.0, 8.0, 4.0]);
+        assert_eq!(tables.vertex_floats[14].to_bits(), FLOAT_MARK);
+        assert_eq!(wires.uses[..2], wire(after));
+        assert_eq!((wires.uses[2], &wires.lengths[..2]), (MARK, &[2, MARK][..]));
     }
 }
 
@@ -66,7 +67,7 @@ fn k6_to_k9_the_search() {
     let search = |notation: &str| {
         let shell = Shell::pipe(&[notation], 1);
         let before = shell.cells();
-        let answer = find_non_simple_wire_divisor(shell.tables(), shell.wires());
+        let answer = find_non_simple_wire_divisor(shell.tables.lend(), shell.wires.lend());
         assert_eq!(shell.cells(), before);
         answer
     };
@@ -81,7 +82,7 @@ fn nearest_ends() {
     let shell = Shell::pipe(&[], 0);
     let [first, second] = ["3+ 4+", "1+ 2+"].map(wire);
     let [first, second]: [Stretch<'_>; 2] = [first[..].into(), second[..].into()];
-    let ends = |first, second| nearest_correction(shell.tables(), first, second, 3);
+    let ends = |first, second| nearest_correction(shell.tables.lend(), first, second, 3);
     assert_eq!(ends(first, second), Ok(Some([3, 1])));
     let empty = Stretch { count: 0, ..first };
     assert_eq!(ends(empty, second), Ok(None));
@@ -102,13 +103,14 @@ fn one_cut() {
         uses,
     });
     assert_eq!([cut(0), cut(1)], [Ok(no_cut), Ok(one_cut)]);
-    assert_eq!(shell.edge_numbers[4..8], [0, 4, 0, 7]);
-    assert_eq!(shell.edge_numbers[20..25], [4, 1, 0, 7, MARK]);
-    let ranges = [&shell.edge_floats[10..12], &shell.edge_floats[34..36]];
+    let Shell { tables, wires } = shell;
+    assert_eq!(tables.edge_numbers[4..8], [0, 4, 0, 7]);
+    assert_eq!(tables.edge_numbers[20..25], [4, 1, 0, 7, MARK]);
+    let ranges = [&tables.edge_floats[10..12], &tables.edge_floats[34..36]];
     assert_eq!(ranges, [[0.0, 2.0], [2.0, 8.0]]);
-    assert_eq!(shell.vertex_floats[28..31], [1.0, 0.0, 3.0]);
-    assert_eq!(shell.uses, wire("1+ 5+ 0+ 5- 1-"));
-    assert_eq!(shell.lengths[..2], [5, MARK]);
+    assert_eq!(tables.vertex_floats[28..31], [1.0, 0.0, 3.0]);
+    assert_eq!(wires.uses, wire("1+ 5+ 0+ 5- 1-"));
+    assert_eq!(wires.lengths[..2], [5, MARK]);
 }
 
 #[test]
@@ -120,9 +122,9 @@ fn k10_a_split() {
         edges: 6,
     };
     assert_eq!(split.ask(), Ok(rebuilt));
-    assert_eq!(split.shell.edge_numbers[20..], [3, 1, 1, 3]);
+    assert_eq!(split.shell.tables.edge_numbers[20..], [3, 1, 1, 3]);
     let seam = [0.0, 1.0, 2.0, 3.0, 0.0, 1.0];
-    assert_eq!(split.shell.edge_floats[30..], seam);
+    assert_eq!(split.shell.tables.edge_floats[30..], seam);
     let built = [wire("0+ 3+ 5+ 2+"), wire("1+ 5- 4+ 0-"), vec![MARK]];
     assert_eq!(split.uses, built.concat());
     assert_eq!(split.lengths[..3], [4, 4, MARK]);
@@ -162,8 +164,8 @@ fn k15_and_k16_joins() {
     let (edges, wires) = shell.lend_wires();
     let joined = connect_open_boundaries(edges, open, wires, [0, 2]);
     assert_eq!(joined, Ok(Some(6)));
-    assert_eq!(shell.uses, wire("0- 1+ 2+ 0+ 3+ 4+"));
-    assert_eq!(shell.lengths[..2], [6, MARK]);
+    assert_eq!(shell.wires.uses, wire("0- 1+ 2+ 0+ 3+ 4+"));
+    assert_eq!(shell.wires.lengths[..2], [6, MARK]);
 }
 
 #[test]

@@ -1,7 +1,8 @@
 //! Shells as slices, with room behind them that holds marks.
 
 use kaugrenna::lent::{EDGE_FLOATS, EDGE_NUMBERS, VERTEX_FLOATS, VERTEX_NUMBERS};
-use kaugrenna::{Edges, EdgesMut, Tables, TablesMut, Use, Wires, WiresMut};
+use kaugrenna::{Edges, EdgesMut, TablesMut, Use, Wires, WiresMut};
+use kaugrenna::{OwnedTables, OwnedWires};
 
 /// What a number cell holds that is no input.
 pub const MARK: u32 = 0xa5a5_0001;
@@ -26,15 +27,8 @@ pub fn bits(floats: &[f64]) -> Vec<u64> {
 /// Two tables and wires. Each edge is span 7 from 0 to 8.
 #[derive(Clone)]
 pub struct Shell {
-    pub vertex_numbers: Vec<u32>,
-    pub vertex_floats: Vec<f64>,
-    pub edge_numbers: Vec<u32>,
-    pub edge_floats: Vec<f64>,
-    pub uses: Vec<u32>,
-    pub lengths: Vec<u32>,
-    pub vertices: usize,
-    pub edges: usize,
-    pub wires: usize,
+    pub tables: OwnedTables,
+    pub wires: OwnedWires,
 }
 
 impl Shell {
@@ -42,29 +36,31 @@ impl Shell {
     pub fn new(points: &[[f64; 3]], ends: &[[u32; 2]], wires: &[&str], room: usize) -> Shell {
         let rows = |count: usize, width: usize| (count + room) * width;
         let mark = f64::from_bits(FLOAT_MARK);
-        let mut shell = Shell {
+        let mut tables = OwnedTables {
             vertex_numbers: vec![MARK; rows(points.len(), VERTEX_NUMBERS)],
             vertex_floats: vec![mark; rows(points.len(), VERTEX_FLOATS)],
             edge_numbers: vec![MARK; rows(ends.len(), EDGE_NUMBERS)],
             edge_floats: vec![mark; rows(ends.len(), EDGE_FLOATS)],
-            uses: wires.iter().flat_map(|notation| wire(notation)).collect(),
-            lengths: wires.iter().map(|text| wire(text).len() as u32).collect(),
             vertices: points.len(),
             edges: ends.len(),
-            wires: wires.len(),
         };
-        shell.uses.extend(vec![MARK; room]);
-        shell.lengths.extend(vec![MARK; room]);
         for (row, point) in points.iter().enumerate() {
-            shell.vertex_numbers[row * VERTEX_NUMBERS] = 0;
-            shell.vertex_floats[row * VERTEX_FLOATS..][..3].copy_from_slice(point);
+            tables.vertex_numbers[row * VERTEX_NUMBERS] = 0;
+            tables.vertex_floats[row * VERTEX_FLOATS..][..3].copy_from_slice(point);
         }
         for (row, [front, back]) in ends.iter().enumerate() {
-            let numbers = &mut shell.edge_numbers[row * EDGE_NUMBERS..][..EDGE_NUMBERS];
+            let numbers = &mut tables.edge_numbers[row * EDGE_NUMBERS..][..EDGE_NUMBERS];
             numbers.copy_from_slice(&[*front, *back, 0, 7]);
-            shell.edge_floats[row * EDGE_FLOATS + 4..][..2].copy_from_slice(&[0.0, 8.0]);
+            tables.edge_floats[row * EDGE_FLOATS + 4..][..2].copy_from_slice(&[0.0, 8.0]);
         }
-        shell
+        let mut wires = OwnedWires {
+            uses: wires.iter().flat_map(|notation| wire(notation)).collect(),
+            lengths: wires.iter().map(|text| wire(text).len() as u32).collect(),
+            count: wires.len(),
+        };
+        wires.uses.extend(vec![MARK; room]);
+        wires.lengths.extend(vec![MARK; room]);
+        Shell { tables, wires }
     }
 
     /// K9's edges and vertices with the given wires.
@@ -74,87 +70,31 @@ impl Shell {
         Shell::new(&points, &PIPE, wires, room)
     }
 
-    /// The tables, to be written.
+    /// Tables and wires, to be written.
     pub fn lend(&mut self) -> (TablesMut<'_>, WiresMut<'_>) {
-        let tables = TablesMut {
-            vertex_numbers: &mut self.vertex_numbers,
-            vertex_floats: &mut self.vertex_floats,
-            edge_numbers: &mut self.edge_numbers,
-            edge_floats: &mut self.edge_floats,
-            vertices: self.vertices,
-            edges: self.edges,
-        };
-        let wires = WiresMut {
-            uses: &mut self.uses,
-            lengths: &mut self.lengths,
-            count: self.wires,
-        };
-        (tables, wires)
-    }
-
-    /// The tables, to be read.
-    pub fn tables(&self) -> Tables<'_> {
-        Tables {
-            vertex_numbers: &self.vertex_numbers,
-            vertex_floats: &self.vertex_floats,
-            edge_numbers: &self.edge_numbers,
-            edge_floats: &self.edge_floats,
-            vertices: self.vertices,
-            edges: self.edges,
-        }
-    }
-
-    /// The wires, to be read.
-    pub fn wires(&self) -> Wires<'_> {
-        Wires {
-            uses: &self.uses,
-            lengths: &self.lengths,
-            count: self.wires,
-        }
+        (self.tables.lend_mut(), self.wires.lend_mut())
     }
 
     /// The edge table to be read, and the wires to be written.
     pub fn lend_wires(&mut self) -> (Edges<'_>, WiresMut<'_>) {
-        let edges = Edges {
-            numbers: &self.edge_numbers,
-            floats: &self.edge_floats,
-            count: self.edges,
-            vertices: self.vertices,
-        };
-        let wires = WiresMut {
-            uses: &mut self.uses,
-            lengths: &mut self.lengths,
-            count: self.wires,
-        };
-        (edges, wires)
+        (self.tables.edges(), self.wires.lend_mut())
     }
 
     /// The edge table to be written, and the wires to be read.
     pub fn lend_edges(&mut self) -> (EdgesMut<'_>, Wires<'_>) {
-        let edges = EdgesMut {
-            numbers: &mut self.edge_numbers,
-            floats: &mut self.edge_floats,
-            count: self.edges,
-            vertices: self.vertices,
-        };
-        let wires = Wires {
-            uses: &self.uses,
-            lengths: &self.lengths,
-            count: self.wires,
-        };
-        (edges, wires)
+        (self.tables.edges_mut(), self.wires.lend())
     }
 
     /// Every cell of every slice.
     pub fn cells(&self) -> [Vec<u64>; 6] {
         let wide = |cells: &[u32]| cells.iter().map(|&cell| u64::from(cell)).collect();
         [
-            wide(&self.vertex_numbers),
-            bits(&self.vertex_floats),
-            wide(&self.edge_numbers),
-            bits(&self.edge_floats),
-            wide(&self.uses),
-            wide(&self.lengths),
+            wide(&self.tables.vertex_numbers),
+            bits(&self.tables.vertex_floats),
+            wide(&self.tables.edge_numbers),
+            bits(&self.tables.edge_floats),
+            wide(&self.wires.uses),
+            wide(&self.wires.lengths),
         ]
     }
 }
