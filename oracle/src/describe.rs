@@ -1,5 +1,6 @@
 //! Inputs in a form that can be read, as far as their buffers reach.
 
+use crate::port::Wires;
 use crate::records::{notation, Vertex};
 use crate::shell::{read_edge, read_vertex, Lent, Tables, NAMES};
 use crate::shell::{EDGE_FLOATS, EDGE_NUMBERS, VERTEX_FLOATS, VERTEX_NUMBERS};
@@ -14,9 +15,13 @@ pub fn lent(input: &Lent) -> String {
     for (name, size) in NAMES.iter().zip(input.sizes()) {
         let _ = writeln!(text, "  {name}: {size} cells");
     }
-    text += &tables(&input.tables);
-    let mut rest = &input.uses[..];
-    for (row, &length) in input.lengths.iter().enumerate().take(input.wires) {
+    text + &tables(&input.tables) + &wires(input.wires())
+}
+
+/// Wires in notation.
+pub fn wires(wires: Wires) -> String {
+    let (mut text, mut rest) = (String::new(), wires.uses);
+    for (row, &length) in wires.lengths.iter().enumerate().take(wires.wires) {
         let (wire, behind) = rest.split_at(rest.len().min(length as usize));
         rest = behind;
         let wire = notation(wire);

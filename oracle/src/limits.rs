@@ -6,10 +6,11 @@ pub mod ways;
 use crate::compare::{Case, Expected};
 use crate::random::Random;
 use crate::records::{Edge, Shell, Vertex};
-use crate::shell::{needed, Lent, Tables};
+use crate::shell::{needed, Lent};
 use crate::shell::{EDGE_FLOATS, EDGE_NUMBERS, VERTEX_FLOATS, VERTEX_NUMBERS};
-use ways::{ample, bits, done, edge, held, refused, sample, shell, span, spoiled, unharmed, words};
+use ways::{ample, cells, done, edge, held, k1_cells, refused, sample, shell, span};
 use ways::{edge_float, edge_number, vertex_float, vertex_number};
+use ways::{spoiled, unharmed, words};
 
 /// All cases.
 pub fn cases() -> Vec<Case<Lent>> {
@@ -104,44 +105,22 @@ fn two_rings() -> Case<Lent> {
 }
 
 /// K1 with each cell written out, in buffers of just the result's length.
-/// The cells that hold 77 belong to no record.
 fn k1_cell_by_cell() -> Case<Lent> {
-    let input = Lent {
-        tables: Tables {
-            vertex_numbers: vec![0, 77, 77, 77, 77, 77],
-            vertex_floats: bits(&[
-                0.0, 0.0, 0.0, 77.0, 77.0, 77.0, 77.0, 77.0, 77.0, 77.0, 77.0, 77.0, 77.0, 77.0,
-            ]),
-            edge_numbers: vec![0, 0, 0, 7, 77, 77, 77, 77],
-            edge_floats: bits(&[
-                77.0, 77.0, 77.0, 77.0, 0.0, 8.0, 77.0, 77.0, 77.0, 77.0, 77.0, 77.0,
-            ]),
-            vertices: 1,
-            edges: 1,
-        },
-        uses: vec![0, 77],
-        lengths: vec![1],
-        wires: 1,
-    };
-    let after = Lent {
-        tables: Tables {
-            vertex_numbers: vec![0, 77, 77, 1, 0, 7],
-            vertex_floats: bits(&[
-                0.0, 0.0, 0.0, 77.0, 77.0, 77.0, 77.0, 77.0, 77.0, 77.0, 77.0, 0.0, 8.0, 4.0,
-            ]),
-            edge_numbers: vec![0, 1, 0, 7, 1, 0, 0, 7],
-            edge_floats: bits(&[
-                77.0, 77.0, 77.0, 77.0, 0.0, 4.0, 77.0, 77.0, 77.0, 77.0, 4.0, 8.0,
-            ]),
-            ..input.tables.clone()
-        },
-        uses: vec![0, 2],
-        lengths: vec![2],
-        wires: 1,
-    };
+    let k = 77.0;
+    let after = cells(
+        (
+            [0, 77, 77, 1, 0, 7],
+            [0.0, 0.0, 0.0, k, k, k, k, k, k, k, k, 0.0, 8.0, 4.0],
+        ),
+        (
+            [0, 1, 0, 7, 1, 0, 0, 7],
+            [k, k, k, k, 0.0, 4.0, k, k, k, k, 4.0, 8.0],
+        ),
+        ([0, 2], 2),
+    );
     Case {
         name: "K1 cell by cell",
-        input,
+        input: k1_cells(),
         expected: Expected {
             answer: 0,
             out: words([2, 2, 2]),

@@ -4,7 +4,7 @@
 use crate::shell::{Lent, Tables};
 
 /// The two tables as a call reads them.
-#[derive(Clone, Copy)]
+#[derive(Clone, Copy, Default)]
 pub struct Rows<'a> {
     pub vertex_numbers: &'a [u32],
     pub vertex_floats: &'a [u64],
@@ -50,6 +50,19 @@ pub struct Wires<'a> {
     pub wires: usize,
 }
 
+impl Wires<'_> {
+    /// The wires themselves. Only for an input that is not refused.
+    pub fn read(&self) -> Vec<Vec<u32>> {
+        let (mut rest, mut wires) = (self.uses, Vec::new());
+        for &length in &self.lengths[..self.wires] {
+            let (wire, behind) = rest.split_at(length as usize);
+            wires.push(wire.to_vec());
+            rest = behind;
+        }
+        wires
+    }
+}
+
 impl Lent {
     /// The wires, lent to be read.
     pub fn wires(&self) -> Wires<'_> {
@@ -60,6 +73,22 @@ impl Lent {
         }
     }
 }
+
+/// How a call is lent on: with these slices of it lent anew.
+macro_rules! lent_on {
+    ($call:ident: $($slice:ident),*) => {
+        impl $call<'_> {
+            /// The same call, lent on for a while.
+            pub fn again(&mut self) -> $call<'_> {
+                $call { $($slice: self.$slice,)* ..*self }
+            }
+        }
+    };
+}
+
+lent_on!(Pass: vertex_numbers, vertex_floats, edge_numbers, edge_floats, uses, lengths, out);
+lent_on!(Join: uses, lengths, out);
+lent_on!(Split: edge_numbers, edge_floats, uses, lengths, out);
 
 /// What one call of `split_closed_edges` is lent. `out` has three places:
 /// vertices, edges and uses.
@@ -77,20 +106,6 @@ pub struct Pass<'a> {
 }
 
 impl Pass<'_> {
-    /// The same call, lent on for a while.
-    pub fn again(&mut self) -> Pass<'_> {
-        Pass {
-            vertex_numbers: self.vertex_numbers,
-            vertex_floats: self.vertex_floats,
-            edge_numbers: self.edge_numbers,
-            edge_floats: self.edge_floats,
-            uses: self.uses,
-            lengths: self.lengths,
-            out: self.out,
-            ..*self
-        }
-    }
-
     /// The tables, lent on to be read.
     pub fn rows(&self) -> Rows<'_> {
         Rows {
@@ -224,16 +239,6 @@ pub struct Join<'a> {
 }
 
 impl Join<'_> {
-    /// The same call, lent on for a while.
-    pub fn again(&mut self) -> Join<'_> {
-        Join {
-            uses: self.uses,
-            lengths: self.lengths,
-            out: self.out,
-            ..*self
-        }
-    }
-
     /// The new wires, lent on to be read.
     pub fn new_wires(&self) -> Wires<'_> {
         Wires {
@@ -265,28 +270,15 @@ pub struct Split<'a> {
 }
 
 impl Split<'_> {
-    /// The same call, lent on for a while.
-    pub fn again(&mut self) -> Split<'_> {
-        Split {
-            edge_numbers: self.edge_numbers,
-            edge_floats: self.edge_floats,
-            uses: self.uses,
-            lengths: self.lengths,
-            out: self.out,
-            ..*self
-        }
-    }
-
     /// The edge table, lent on to be read. The vertex table stays with the
     /// host, so that its slices are empty here.
     pub fn rows(&self) -> Rows<'_> {
         Rows {
-            vertex_numbers: &[],
-            vertex_floats: &[],
             edge_numbers: self.edge_numbers,
             edge_floats: self.edge_floats,
             vertices: self.vertices,
             edges: self.edges,
+            ..Rows::default()
         }
     }
 }

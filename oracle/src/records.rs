@@ -77,6 +77,11 @@ pub fn wire(notation: &str) -> Vec<u32> {
     notation.split_whitespace().map(one).collect()
 }
 
+/// Wires from their notations.
+pub fn wires(notations: &[&str]) -> Vec<Vec<u32>> {
+    notations.iter().map(|notation| wire(notation)).collect()
+}
+
 /// The notation of a wire.
 pub fn notation(uses: &[u32]) -> String {
     let sign = |number: u32| if number % 2 == 1 { '-' } else { '+' };

@@ -186,19 +186,8 @@ impl Lent {
         Shell {
             vertices: self.tables.vertices(),
             edges: self.tables.edges(),
-            wires: self.read_wires(),
+            wires: self.wires().read(),
         }
-    }
-
-    /// The wires below the count. Only for an input that is not refused.
-    pub fn read_wires(&self) -> Vec<Vec<u32>> {
-        let (mut rest, mut wires) = (&self.uses[..], Vec::new());
-        for &length in &self.lengths[..self.wires] {
-            let (wire, behind) = rest.split_at(length as usize);
-            wires.push(wire.to_vec());
-            rest = behind;
-        }
-        wires
     }
 
     /// Writes the records over the rows and the wires over the uses and

@@ -2,16 +2,17 @@
 
 mod limits;
 
+use super::split_closed_edges::SHELL;
 use super::Families;
 use crate::cells::{Cells, Kind, Slice};
-use crate::compare::{read, written, Case, Expected, Input, Lending};
+use crate::compare::{read, Case, Expected, Input, Lending};
 use crate::inputs::{any_count, any_sizes, damage, lend_for, little_sizes, noise, Sizes};
 use crate::inputs::{float, shell, spoil_float, spoil_one_of};
 use crate::model::cut::{Cuts, CUT};
 use crate::port::{Cut, Port};
 use crate::random::Random;
 use crate::records::Shell;
-use crate::shell::{float_poison, needed, Lent, EDGE_FLOATS, NAMES};
+use crate::shell::{float_poison, needed, Lent, EDGE_FLOATS};
 use crate::{describe, small};
 use std::fmt::Write as _;
 
@@ -32,15 +33,10 @@ impl Input for CutEdge {
     const NUMBER: u64 = 8;
     const ANSWERS: &'static [i32] = &[0, 1, 2, 3, 4, 5, 6, 14];
     const SCALARS: usize = 5;
-    const SLICES: &'static [Lending] = &[
-        written(NAMES[0], Kind::Number),
-        written(NAMES[1], Kind::Float),
-        written(NAMES[2], Kind::Number),
-        written(NAMES[3], Kind::Float),
-        written(NAMES[4], Kind::Number),
-        written(NAMES[5], Kind::Number),
-        read("cuts", Kind::Float),
-    ];
+    const SLICES: &'static [Lending] = &{
+        let [a, b, c, d, e, f] = SHELL;
+        [a, b, c, d, e, f, read("cuts", Kind::Float)]
+    };
     const OUT: (Kind, usize) = (Kind::Count, 3);
 
     fn scalars(&self) -> Vec<u64> {

@@ -9,7 +9,7 @@ use crate::describe;
 use crate::inputs::{damage, noise};
 use crate::port::{Port, Search, Wires};
 use crate::random::Random;
-use crate::records::{wire, Edge, Shell, Vertex};
+use crate::records::{Edge, Shell, Vertex};
 use crate::shell::{needed, Lent, NAMES};
 
 /// What a call is lent.
@@ -149,8 +149,7 @@ fn any_wire(random: &mut Random, edges: usize, little: bool) -> Vec<u32> {
 
 /// The sample's tables with wires in notation.
 fn sample(wires: &[&str]) -> FindDivisor {
-    let wires: Vec<Vec<u32>> = wires.iter().map(|notation| wire(notation)).collect();
-    FindDivisor::over(&POINTS, &sample_edges(), &wires)
+    FindDivisor::over(&POINTS, &sample_edges(), &crate::records::wires(wires))
 }
 
 /// K9's wire.

@@ -408,7 +408,7 @@ impl Families for JoinWires {
         if let Some(number) = join_refused(&joining) {
             return Expected::unchanged(self, number);
         }
-        let (edges, new) = (self.new.tables.edges(), self.new.read_wires());
+        let (edges, new) = (self.new.tables.edges(), self.new.wires().read());
         let open = [
             &self.first[..self.first_count],
             &self.second[..self.second_count],

@@ -8,19 +8,22 @@ use crate::random::Random;
 use crate::shell::{Lent, Tables, NAMES};
 use crate::{describe, inputs, limits, small};
 
+/// The slices of a call over a shell.
+pub const SHELL: [Lending; 6] = [
+    written(NAMES[0], Kind::Number),
+    written(NAMES[1], Kind::Float),
+    written(NAMES[2], Kind::Number),
+    written(NAMES[3], Kind::Float),
+    written(NAMES[4], Kind::Number),
+    written(NAMES[5], Kind::Number),
+];
+
 impl Input for Lent {
     const NAME: &'static str = "split_closed_edges";
     const NUMBER: u64 = 1;
     const ANSWERS: &'static [i32] = &[0, 1, 2, 3, 4, 5, 6];
     const SCALARS: usize = 3;
-    const SLICES: &'static [Lending] = &[
-        written(NAMES[0], Kind::Number),
-        written(NAMES[1], Kind::Float),
-        written(NAMES[2], Kind::Number),
-        written(NAMES[3], Kind::Float),
-        written(NAMES[4], Kind::Number),
-        written(NAMES[5], Kind::Number),
-    ];
+    const SLICES: &'static [Lending] = &SHELL;
     const OUT: (Kind, usize) = (Kind::Count, 3);
 
     fn scalars(&self) -> Vec<u64> {

@@ -12,7 +12,7 @@ use crate::describe;
 use crate::model::split::{breach, Answered, Splitting};
 use crate::port::{Port, Split, Wires};
 use crate::random::Random;
-use crate::records::{notation, Edge};
+use crate::records::Edge;
 use crate::shell::{float_poison, numbers_poison, Tables, EDGE_FLOATS, EDGE_NUMBERS, NAMES};
 use std::fmt::Write as _;
 
@@ -43,30 +43,10 @@ impl WireCells {
         }
     }
 
-    /// The wires themselves. Only for an input that is not refused.
-    #[cfg(rust_at_hand)]
-    fn wires(&self) -> Vec<Vec<u32>> {
-        let (mut rest, mut wires) = (&self.uses[..], Vec::new());
-        for &length in &self.lengths[..self.wires] {
-            let (wire, behind) = rest.split_at(length as usize);
-            wires.push(wire.to_vec());
-            rest = behind;
-        }
-        wires
-    }
-
     /// The wires in notation.
     fn describe(&self, name: &str) -> String {
-        let uses = self.uses.len();
-        let mut text = format!("  {name}: {} wires, {uses} cells\n", self.wires);
-        let mut rest = &self.uses[..];
-        for (row, &length) in self.lengths.iter().enumerate().take(self.wires) {
-            let (wire, behind) = rest.split_at(rest.len().min(length as usize));
-            rest = behind;
-            let wire = notation(wire);
-            let _ = writeln!(text, "  wire {row} of length {length}: {wire}");
-        }
-        text
+        let (wires, uses) = (self.wires, self.uses.len());
+        format!("  {name}: {wires} wires, {uses} cells\n") + &describe::wires(self.lent())
     }
 }
 
@@ -343,7 +323,7 @@ impl Families for SplitWires {
         if let Some(number) = split_refused(&self.splitting()) {
             return Expected::unchanged(self, number);
         }
-        let (face, rebuilt) = (self.face.wires(), self.rebuilt.wires());
+        let (face, rebuilt) = (self.face.lent().read(), self.rebuilt.lent().read());
         let before = self.tables.edges();
         let wires = [&face[..], &rebuilt[..]];
         match split_by_divisor(&before, wires, &self.places(), self.surface) {

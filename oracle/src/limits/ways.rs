@@ -3,8 +3,8 @@
 
 use crate::compare::{Case, Expected};
 use crate::random::Random;
-use crate::records::{wire, Curve, Edge, Shell, Vertex};
-use crate::shell::{needed, Lent};
+use crate::records::{self, Curve, Edge, Shell, Vertex};
+use crate::shell::{needed, Lent, Tables};
 use crate::shell::{EDGE_FLOATS, EDGE_NUMBERS, VERTEX_FLOATS, VERTEX_NUMBERS};
 
 /// A span.
@@ -22,7 +22,7 @@ pub fn shell(vertices: &[Vertex], edges: &[Edge], wires: &[&str]) -> Shell {
     Shell {
         vertices: vertices.to_vec(),
         edges: edges.to_vec(),
-        wires: wires.iter().map(|notation| wire(notation)).collect(),
+        wires: records::wires(wires),
     }
 }
 
@@ -52,9 +52,42 @@ pub fn done(name: &'static str, before: &Shell, after: &Shell) -> Case<Lent> {
     }
 }
 
-/// The bits of floats.
-pub fn bits(floats: &[f64]) -> Vec<u64> {
-    floats.iter().map(|float| float.to_bits()).collect()
+/// One vertex, one edge and one wire in buffers for two of each, every cell
+/// written out: vertex rows, edge rows, uses and the length.
+pub fn cells(
+    vertices: ([u32; 6], [f64; 14]),
+    edges: ([u32; 8], [f64; 12]),
+    (uses, length): ([u32; 2], u32),
+) -> Lent {
+    Lent {
+        tables: Tables {
+            vertex_numbers: vertices.0.to_vec(),
+            vertex_floats: vertices.1.map(f64::to_bits).to_vec(),
+            edge_numbers: edges.0.to_vec(),
+            edge_floats: edges.1.map(f64::to_bits).to_vec(),
+            vertices: 1,
+            edges: 1,
+        },
+        uses: uses.to_vec(),
+        lengths: vec![length],
+        wires: 1,
+    }
+}
+
+/// K1 cell by cell. The cells that hold 77 belong to no record.
+pub fn k1_cells() -> Lent {
+    let k = 77.0;
+    cells(
+        (
+            [0, 77, 77, 77, 77, 77],
+            [0.0, 0.0, 0.0, k, k, k, k, k, k, k, k, k, k, k],
+        ),
+        (
+            [0, 0, 0, 7, 77, 77, 77, 77],
+            [k, k, k, k, 0.0, 8.0, k, k, k, k, k, k],
+        ),
+        ([0, 77], 1),
+    )
 }
 
 /// Counts as they stand in the out places.

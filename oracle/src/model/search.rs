@@ -96,14 +96,11 @@ fn pair(wire: &[u32], from: usize) -> Option<(usize, usize)> {
 #[cfg(test)]
 mod tests {
     use super::{search_end, End};
-    use crate::records::wire;
+    use crate::records::wires;
 
     #[test]
     fn worked_wires() {
-        let end = |wires: &[&str]| {
-            let wires: Vec<_> = wires.iter().map(|notation| wire(notation)).collect();
-            search_end(&wires)
-        };
+        let end = |notations: &[&str]| search_end(&wires(notations));
         assert_eq!(end(&[]), End::Nothing);
         assert_eq!(end(&["0+ 1+ 2+"]), End::Nothing);
         assert_eq!(end(&["0+ 1+ 0-"]), End::PastEnd);

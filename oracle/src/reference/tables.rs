@@ -183,7 +183,7 @@ fn edge_causes(rows: &Rows) -> Vec<i32> {
 }
 
 /// The cause that a row of uses meets.
-fn use_causes(uses: &[u32], edges: usize) -> Option<i32> {
+pub fn use_causes(uses: &[u32], edges: usize) -> Option<i32> {
     let beyond = |number: &u32| (*number >> 1) as usize >= edges;
     uses.iter().any(beyond).then_some(3)
 }

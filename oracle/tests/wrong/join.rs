@@ -2,7 +2,7 @@
 
 use super::{behind, step, Mutant};
 use oracle::port::Join;
-use oracle::reference::tables::{edge_rows, have_room, join_causes};
+use oracle::reference::tables::{edge_rows, have_room, join_causes, use_causes};
 use oracle::shell::EDGE_NUMBERS;
 
 /// All wrong joins.
@@ -446,39 +446,32 @@ pub fn wrong_join_vertices() -> Vec<Mutant> {
     ]
 }
 
+/// The causes, and one more where it is met.
+fn and(call: &Join, more: Option<i32>) -> Vec<i32> {
+    let mut found = join_causes(call);
+    found.extend(more);
+    found
+}
+
 /// Uses that are looked at wrongly.
 pub fn wrong_join_uses() -> Vec<Mutant> {
     vec![
         after("new uses not looked at", |answer, _, call| {
-            let beyond = |number: &u32| *number as usize / 2 >= call.rows.edges;
             let open = [call.first, call.second].concat();
             match answer {
-                3 if !open.iter().any(beyond) => -1,
+                3 if use_causes(&open, call.rows.edges).is_none() => -1,
                 _ => answer,
             }
         }),
-        after("open uses not looked at", |answer, _, call| {
-            let beyond = |number: &u32| *number as usize / 2 >= call.rows.edges;
-            match answer {
-                3 if !call.uses.iter().any(beyond) => -1,
-                _ => answer,
-            }
+        after("open uses not looked at", |answer, _, call| match answer {
+            3 if use_causes(call.uses, call.rows.edges).is_none() => -1,
+            _ => answer,
         }),
         step("uses past a count are looked at", |r| {
-            r.tables.join_causes = |call| {
-                let mut found = join_causes(call);
-                let beyond = |&number: &u32| number as usize / 2 >= call.rows.edges;
-                found.extend(call.second.iter().any(beyond).then_some(3));
-                found
-            }
+            r.tables.join_causes = |call| and(call, use_causes(call.second, call.rows.edges))
         }),
         step("uses behind the new wires are looked at", |r| {
-            r.tables.join_causes = |call| {
-                let mut found = join_causes(call);
-                let beyond = |&number: &u32| number as usize / 2 >= call.rows.edges;
-                found.extend(call.uses.iter().any(beyond).then_some(3));
-                found
-            }
+            r.tables.join_causes = |call| and(call, use_causes(call.uses, call.rows.edges))
         }),
     ]
 }
@@ -509,11 +502,9 @@ pub fn wrong_join_rows() -> Vec<Mutant> {
         }),
         step("an edge row past the count is looked at", |r| {
             r.tables.join_causes = |call| {
-                let mut found = join_causes(call);
                 let mut rows = call.rows.edge_numbers.chunks_exact(EDGE_NUMBERS);
                 let next = rows.nth(call.rows.edges);
-                found.extend(next.is_some_and(|row| row[2] > 1).then_some(1));
-                found
+                and(call, next.is_some_and(|row| row[2] > 1).then_some(1))
             }
         }),
     ]

@@ -2,7 +2,8 @@
 
 use super::{behind, step, Mutant};
 use oracle::reference::search::{distance2, pair, Found};
-use oracle::reference::tables::{causes, edge_rows, nearest_causes, pending, vertex_rows};
+use oracle::reference::tables::{causes, edge_rows, nearest_causes, pending};
+use oracle::reference::tables::{use_causes, vertex_rows};
 
 /// All wrong nearest ends.
 pub fn lists_of_nearest() -> Vec<Vec<Mutant>> {
@@ -122,8 +123,7 @@ pub fn wrong_nearest() -> Vec<Mutant> {
         step("uses past a count are looked at", |r| {
             r.tables.nearest_causes = |call| {
                 let mut found = nearest_causes(call);
-                let beyond = |&number: &u32| number as usize / 2 >= call.rows.edges;
-                found.extend(call.second.iter().any(beyond).then_some(3));
+                found.extend(use_causes(call.second, call.rows.edges));
                 found
             }
         }),

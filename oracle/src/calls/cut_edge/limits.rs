@@ -3,13 +3,12 @@
 
 use super::{CutEdge, CUT};
 use crate::compare::{Case, Expected};
-use crate::limits::ways::{
-    ample, bits, edge, edge_float, edge_number, held, sample, span, vertex_number,
-};
+use crate::limits::ways::{ample, cells, edge, held, k1_cells, sample, span};
+use crate::limits::ways::{edge_float, edge_number, vertex_number};
 use crate::limits::{self, ways};
 use crate::random::Random;
 use crate::records::{wire, Edge, Shell, Vertex};
-use crate::shell::{needed, Lent, Tables};
+use crate::shell::{needed, Lent};
 
 /// All cases.
 pub fn cases() -> Vec<Case<CutEdge>> {
@@ -165,45 +164,29 @@ fn the_last_edge() -> Case<CutEdge> {
     done("the last edge", &before, (2, [t, x, y, z]), &after)
 }
 
-/// A cut with each cell written out, in buffers of just the result's length.
-/// The cells that hold 77 belong to no record and are kept.
+/// K1's edge cut at 3 with each cell written out, in buffers of just the
+/// result's length. The cells that hold 77 belong to no record and are kept.
 fn cell_by_cell() -> Case<CutEdge> {
     let k = 77.0;
-    let lent = Lent {
-        tables: Tables {
-            vertex_numbers: vec![0, 77, 77, 77, 77, 77],
-            vertex_floats: bits(&[0.0, 0.0, 0.0, k, k, k, k, k, k, k, k, k, k, k]),
-            edge_numbers: vec![0, 0, 0, 7, 77, 77, 77, 77],
-            edge_floats: bits(&[k, k, k, k, 0.0, 8.0, k, k, k, k, k, k]),
-            vertices: 1,
-            edges: 1,
-        },
-        uses: vec![0, 77],
-        lengths: vec![1],
-        wires: 1,
-    };
-    let after = Lent {
-        tables: Tables {
-            vertex_numbers: vec![0, 77, 77, 0, 77, 77],
-            vertex_floats: bits(&[0.0, 0.0, 0.0, k, k, k, k, 0.5, 0.25, -1.0, k, k, k, k]),
-            edge_numbers: vec![0, 1, 0, 7, 1, 0, 0, 7],
-            edge_floats: bits(&[k, k, k, k, 0.0, 3.0, k, k, k, k, 3.0, 8.0]),
-            ..lent.tables.clone()
-        },
-        uses: vec![0, 2],
-        lengths: vec![2],
-        wires: 1,
-    };
-    let input = CutEdge::over(lent, 0, &[AT_3]);
-    let expected = Expected {
-        answer: 0,
-        out: vec![2, 2, 2],
-        after: CutEdge::over(after, 0, &[AT_3]),
-    };
+    let after = cells(
+        (
+            [0, 77, 77, 0, 77, 77],
+            [0.0, 0.0, 0.0, k, k, k, k, 0.5, 0.25, -1.0, k, k, k, k],
+        ),
+        (
+            [0, 1, 0, 7, 1, 0, 0, 7],
+            [k, k, k, k, 0.0, 3.0, k, k, k, k, 3.0, 8.0],
+        ),
+        ([0, 2], 2),
+    );
     Case {
         name: "a cut cell by cell",
-        input,
-        expected,
+        input: CutEdge::over(k1_cells(), 0, &[AT_3]),
+        expected: Expected {
+            answer: 0,
+            out: vec![2, 2, 2],
+            after: CutEdge::over(after, 0, &[AT_3]),
+        },
     }
 }
 

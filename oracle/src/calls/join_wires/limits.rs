@@ -4,7 +4,7 @@
 use super::JoinWires;
 use crate::calls::tables::{edge_table, sample_edges, spans, tables, POINTS, SPOILS};
 use crate::compare::{Case, NONE};
-use crate::records::wire;
+use crate::records::{wire, wires};
 use crate::shell::{Tables, EDGE_FLOATS};
 
 /// All cases.
@@ -27,11 +27,6 @@ pub fn cases() -> Vec<Case<JoinWires>> {
     .into_iter()
     .flatten()
     .collect()
-}
-
-/// Wires from their notations.
-fn wires(notations: &[&str]) -> Vec<Vec<u32>> {
-    notations.iter().map(|notation| wire(notation)).collect()
 }
 
 /// K9's edges, two open wires, new wires and two vertices, with some room

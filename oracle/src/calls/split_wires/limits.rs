@@ -7,7 +7,7 @@ mod room;
 use super::{Place, SplitWires};
 use crate::calls::tables::{sample_edges, spans, tables, POINTS, SPOILS};
 use crate::compare::Case;
-use crate::records::{wire, Curve, Edge};
+use crate::records::{wires, Curve, Edge};
 use crate::shell::Tables;
 
 /// All cases.
@@ -35,11 +35,6 @@ pub fn cases() -> Vec<Case<SplitWires>> {
     .into_iter()
     .flatten()
     .collect()
-}
-
-/// Wires from their notations.
-fn wires(notations: &[&str]) -> Vec<Vec<u32>> {
-    notations.iter().map(|notation| wire(notation)).collect()
 }
 
 /// A vertex with a point of its own.

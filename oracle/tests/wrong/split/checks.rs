@@ -4,7 +4,7 @@ use super::after;
 use crate::wrong::{step, Mutant};
 use oracle::port::{Port, Split, Wires};
 use oracle::reference::split::fits;
-use oracle::reference::tables::{edge_rows, have_room, sized, split_causes};
+use oracle::reference::tables::{edge_rows, have_room, sized, split_causes, use_causes};
 use oracle::reference::Reference;
 use oracle::shell::{EDGE_FLOATS, EDGE_NUMBERS};
 
@@ -374,20 +374,17 @@ fn wrong_numbers() -> Vec<Mutant> {
 /// Uses that are not looked at.
 fn wrong_uses() -> Vec<Mutant> {
     vec![
-        after("face uses not looked at", |answer, _, call| {
-            let beyond = |number: &u32| *number as usize / 2 >= call.edges;
-            match answer {
-                3 if !call.rebuilt.uses.iter().any(beyond) => 11,
-                _ => answer,
-            }
+        after("face uses not looked at", |answer, _, call| match answer {
+            3 if use_causes(call.rebuilt.uses, call.edges).is_none() => 11,
+            _ => answer,
         }),
-        after("rebuilt uses not looked at", |answer, _, call| {
-            let beyond = |number: &u32| *number as usize / 2 >= call.edges;
-            match answer {
-                3 if !call.face.uses.iter().any(beyond) => 11,
+        after(
+            "rebuilt uses not looked at",
+            |answer, _, call| match answer {
+                3 if use_causes(call.face.uses, call.edges).is_none() => 11,
                 _ => answer,
-            }
-        }),
+            },
+        ),
         after("uses of new edges pass", |answer, _, call| {
             let most = call.rebuilt.uses.iter().chain(call.face.uses).max();
             let new = call.edges.min(4096) + call.divisor_count.min(4096) / 2;
@@ -410,16 +407,12 @@ fn and(call: &Split, number: i32, there: bool) -> Vec<i32> {
 fn wrong_sight() -> Vec<Mutant> {
     vec![
         step("uses behind the wires are looked at", |r| {
-            r.tables.split_causes = |call| {
-                let beyond = |&number: &u32| number as usize / 2 >= call.edges;
-                and(call, 3, call.rebuilt.uses.iter().any(beyond))
-            }
+            r.tables.split_causes =
+                |call| and(call, 3, use_causes(call.rebuilt.uses, call.edges).is_some())
         }),
         step("face uses behind the wires are looked at", |r| {
-            r.tables.split_causes = |call| {
-                let beyond = |&number: &u32| number as usize / 2 >= call.edges;
-                and(call, 3, call.face.uses.iter().any(beyond))
-            }
+            r.tables.split_causes =
+                |call| and(call, 3, use_causes(call.face.uses, call.edges).is_some())
         }),
         step("vertices behind the list are looked at", |r| {
             r.tables.split_causes = |call| {
