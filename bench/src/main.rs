@@ -7,6 +7,7 @@
 //!     bench calls ROW SIDE N    makes 4 calls of a side ready and N of them, for the
 //!                               count of instructions; SIDE is `port` or `rust`
 
+mod checks;
 mod clock;
 mod count;
 mod inputs;

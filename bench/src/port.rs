@@ -11,14 +11,14 @@ use oracle::shell::{needed, Lent};
 
 /// The slices of a shell.
 #[derive(Clone)]
-struct Slices {
-    tables: OwnedTables,
-    wires: OwnedWires,
+pub struct Slices {
+    pub tables: OwnedTables,
+    pub wires: OwnedWires,
 }
 
 impl Slices {
     /// A shell, with room for so many more rows and uses.
-    fn of(shell: &Shell, rows: usize, uses: usize) -> Slices {
+    pub fn of(shell: &Shell, rows: usize, uses: usize) -> Slices {
         let [vertices, edges, used] = shell.counts();
         let room = [vertices + rows, edges + rows, used + uses];
         let sizes = needed(room, shell.wires.len());

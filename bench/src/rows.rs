@@ -1,6 +1,7 @@
 //! The rows of the table: every call at every size, both sides made ready
 //! from the same input.
 
+use crate::checks;
 use crate::inputs::{self, Size};
 use crate::port;
 use kaugrenna::Refusal;
@@ -58,6 +59,7 @@ pub fn visit_all(visitor: &mut impl Visitor) {
             visit_cuts(size, visitor);
             visit_lookups(size, visitor);
             visit_rebuilt(size, visitor);
+            visit_checks(size, visitor);
         }
     }
     for wires in [8, 64] {
@@ -134,6 +136,17 @@ fn visit_rebuilt(size: Size, visitor: &mut impl Visitor) {
         over_tables("connect_open_boundaries", size),
         |_| port::Join::of(&shell, ends),
         |_| rust::Join::of(&shell, ends),
+    );
+}
+
+/// The checks alone, over the shells of one cut; here the Rust side is the same
+/// tests in Rust.
+fn visit_checks(size: Size, visitor: &mut impl Visitor) {
+    let shell = inputs::cut(size);
+    visitor.row(
+        over_tables("checks alone", size),
+        |_| checks::OfPort::of(&shell),
+        |_| checks::OfRust::of(&shell),
     );
 }
 
