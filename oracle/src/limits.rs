@@ -1,6 +1,7 @@
 //! Named inputs at the corners and bounds of the specification, each with its
 //! answer written out by hand.
 
+pub mod arrays;
 pub mod ways;
 
 use crate::compare::{Case, Expected};
@@ -20,6 +21,7 @@ pub fn cases() -> Vec<Case<Lent>> {
         middles(),
         full_tables(),
         use_counts(),
+        arrays::cases(),
         kinds(),
         numbers(),
         floats(),

@@ -104,8 +104,10 @@ fn missed(call: &str) -> Vec<&'static str> {
 
 #[test]
 fn stored_answers_find_wrong_passes() {
-    // These need tables at their bounds, or a NaN in a call that is done.
+    // These need 65 edges, tables at their bounds, or a NaN in a call that is
+    // done.
     let known = [
+        "the last of 65 edges not cut",
         "no bound on vertices out",
         "4096 vertices out are too many",
         "1024 uses out are too many",
@@ -135,8 +137,10 @@ fn stored_answers_find_wrong_searches() {
 
 #[test]
 fn stored_answers_find_wrong_cuts() {
-    // These need tables at their bounds, or a NaN in a call that is done.
+    // These need 65 uses, tables at their bounds, or a NaN in a call that is
+    // done.
     let known = [
+        "the last of 65 uses turned",
         "no bound on vertices out",
         "no bound on edges out",
         "no bound on uses out",
@@ -152,6 +156,8 @@ fn stored_answers_find_wrong_cuts() {
 fn stored_answers_find_wrong_joins() {
     // These need more uses than a stored buffer holds.
     let known = [
+        "the last of 65 uses laid turned",
+        "the last of 65 new uses turned",
         "1024 uses out are too many",
         "1024 uses are too many",
         "1025 uses pass",
@@ -162,7 +168,7 @@ fn stored_answers_find_wrong_joins() {
 #[test]
 fn stored_answers_find_wrong_splits() {
     // These need more uses, edges, wires or vertices on the divisor than a
-    // stored buffer holds.
+    // stored buffer holds, or just 65 vertices.
     let known = [
         "1024 uses out are too many",
         "no bound on uses out",
@@ -172,6 +178,8 @@ fn stored_answers_find_wrong_splits() {
         "1025 uses pass",
         "more than 64 wires out refused",
         "a list is bounded by 1024",
+        "the last of 65 edges unmarked",
+        "11 for 10 at 65 vertices",
     ];
     assert_eq!(missed("split_boundaries_by_divisor"), known);
 }

@@ -14,6 +14,7 @@ pub fn lists() -> Vec<Vec<Mutant>> {
         wrong_pieces(),
         wrong_points(),
         wrong_mending(),
+        wrong_at_65(),
         wrong_counts(),
         wrong_cut_order(),
         wrong_without_cut(),
@@ -144,6 +145,20 @@ pub fn wrong_mending() -> Vec<Mutant> {
         }),
         step("no wire mended", |r| r.cut.mends = |_, _| false),
     ]
+}
+
+/// Cuts that go wrong at 65 uses alone, the first that need large arrays.
+fn wrong_at_65() -> Vec<Mutant> {
+    vec![after(
+        "the last of 65 uses turned",
+        |answer, before, call| {
+            let uses = before.lengths.iter().take(before.wires);
+            if answer == 0 && uses.sum::<u32>() == 65 {
+                call.pass.uses[call.pass.out[2] - 1] ^= 1;
+            }
+            answer
+        },
+    )]
 }
 
 /// Counts of cuts that are taken wrongly.

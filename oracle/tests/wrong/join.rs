@@ -15,6 +15,7 @@ pub fn lists() -> Vec<Vec<Mutant>> {
         wrong_new_wires(),
         wrong_parts(),
         wrong_neighbours(),
+        wrong_at_65(),
         wrong_empty_wires(),
         wrong_order(),
         wrong_answers(),
@@ -243,6 +244,32 @@ pub fn wrong_neighbours() -> Vec<Mutant> {
         }),
         step("the last new wire replaced", |r| {
             r.join.put = |wires, _, joined| *wires.last_mut().expect("a wire") = joined
+        }),
+    ]
+}
+
+/// Joins that go wrong at 65 uses laid or at 65 new ones alone, the first that
+/// need large arrays.
+fn wrong_at_65() -> Vec<Mutant> {
+    vec![
+        step("the last of 65 uses laid turned", |r| {
+            r.join.middle = |first, new| {
+                let mut laid = [first, new].concat();
+                if laid.len() == 65 {
+                    laid[64] ^= 1;
+                }
+                laid
+            }
+        }),
+        step("the last of 65 new uses turned", |r| {
+            r.join.put = |wires, taken, joined| {
+                let uses: usize = wires.iter().map(Vec::len).sum();
+                wires[taken] = joined;
+                if uses == 65 {
+                    let last = wires.iter_mut().flatten().last();
+                    *last.expect("a use") ^= 1;
+                }
+            }
         }),
     ]
 }

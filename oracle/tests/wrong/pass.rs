@@ -12,6 +12,7 @@ pub fn lists() -> Vec<Vec<Mutant>> {
     vec![
         wrong_results(),
         wrong_vertices(),
+        wrong_at_65(),
         wrong_middles(),
         wrong_refusals(),
         wrong_bounds(),
@@ -114,6 +115,13 @@ pub fn wrong_vertices() -> Vec<Mutant> {
             r.pass.order = |edges| (0..edges.min(2)).collect()
         }),
     ]
+}
+
+/// Passes that go wrong at 65 edges alone, the first that need large arrays.
+fn wrong_at_65() -> Vec<Mutant> {
+    vec![step("the last of 65 edges not cut", |r| {
+        r.pass.order = |edges| (0..edges - usize::from(edges == 65)).collect()
+    })]
 }
 
 /// Middles that are wrong, some of them in the last bit.

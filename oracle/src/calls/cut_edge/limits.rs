@@ -1,6 +1,8 @@
 //! Named cuts at the corners and bounds of the specification, each with its
 //! answer written out by hand.
 
+mod arrays;
+
 use super::{CutEdge, CUT};
 use crate::compare::{Case, Expected};
 use crate::limits::ways::{ample, cells, edge, held, k1_cells, sample, span};
@@ -19,6 +21,7 @@ pub fn cases() -> Vec<Case<CutEdge>> {
         nothing_to_cut(),
         full_tables(),
         use_counts(),
+        arrays::cases(),
         numbers(),
         cuts(),
         several(),
@@ -315,6 +318,9 @@ fn use_counts() -> Vec<Case<CutEdge>> {
     most.input.lent.shorten(sizes);
     most.expected.after.lent.shorten(sizes);
     vec![
+        lines("63 uses of the edge", 63),
+        lines("64 uses of the edge", 64),
+        lines("65 uses of the edge", 65),
         lines("511 uses of the edge", 511),
         lines("512 uses of the edge", 512),
         most,

@@ -1,6 +1,8 @@
 //! Named joins at the corners and bounds of the specification, each with its
 //! answer written out by hand.
 
+mod arrays;
+
 use super::JoinWires;
 use crate::calls::tables::{edge_table, sample_edges, spans, tables, POINTS, SPOILS};
 use crate::compare::{Case, NONE};
@@ -17,6 +19,7 @@ pub fn cases() -> Vec<Case<JoinWires>> {
         vec![cell_by_cell()],
         nones(),
         bounds(),
+        arrays::cases(),
         lengths(),
         numbers(),
         room(),

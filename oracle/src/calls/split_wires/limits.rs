@@ -1,6 +1,7 @@
 //! Named splits at the corners and bounds of the specification, each with its
 //! answer written out by hand.
 
+mod arrays;
 mod bounds;
 mod room;
 
@@ -28,6 +29,7 @@ pub fn cases() -> Vec<Case<SplitWires>> {
         vec![cell_by_cell()],
         floats(),
         lists(),
+        arrays::cases(),
         bounds::cases(),
         room::cases(),
         spoils(),
@@ -80,7 +82,7 @@ const K12: &str = "0+ 1+ 2+ 3+ 4+ 5+";
 
 /// An input that is split into these wires. Each pair is a seam from its first
 /// point to its second, from 0 to 1.
-fn done(name: &'static str, input: SplitWires, after: &[&str]) -> Case<SplitWires> {
+fn split_into(name: &'static str, input: SplitWires, after: &[Vec<u32>]) -> Case<SplitWires> {
     let places = input.places();
     let edge = |pair: &[Place]| Edge {
         front: pair[0].0,
@@ -94,12 +96,17 @@ fn done(name: &'static str, input: SplitWires, after: &[&str]) -> Case<SplitWire
         },
     };
     let new: Vec<Edge> = places.chunks_exact(2).map(edge).collect();
-    let expected = input.done(&new, &wires(after));
+    let expected = input.done(&new, after);
     Case {
         name,
         input,
         expected,
     }
+}
+
+/// The same with the wires in notation.
+fn done(name: &'static str, input: SplitWires, after: &[&str]) -> Case<SplitWires> {
+    split_into(name, input, &wires(after))
 }
 
 /// K10 with a change that earns a refusal.
