@@ -12,7 +12,7 @@ use Rattle.compress.specs.declared.Refusal.the-variants.{Malformed, VertexNumbe
 use Rattle.compress.specs.Refusals.{refusalNumber}
 use Rattle.compress.specs.Said.{Said, result, none, refused}
 use Rattle.compress.specs.Shell.{Counts}
-use Rattle.split_closed_edges.specs.Contract.{Outcome}
+use Rattle.cutting.specs.Contract.{Outcome}
 use Rattle.join.specs.Contract.{JoinOutcome}
 use Rattle.nearest.specs.Kinds.{SortOutcome}
 use Rattle.split.specs.Contract.{SplitCounts, SplitOutcome}

@@ -13,8 +13,10 @@ use Rattle.compress.specs.Records.{closed, frontOf, backOf, frontAt, backAt}
 use Rattle.compress.specs.Said.{Said, result, none, refused}
 use Rattle.compress.specs.Shell.{Shell}
 use Rattle.checks.specs.Causes.{lowerOf, floatCause, periodCause, uvCause}
-use Rattle.split_closed_edges.specs.Cut.{middleOf, halvesOf, pendingOf}
-use Rattle.split_closed_edges.specs.Pass.{keptEdges, newEdges, newVertices, addedTo, replaceUse, replaceEdges, replaceWires, splitClosedEdges}
+use Rattle.cut_edge.specs.Cut.{middleOf, halvesOf, pendingOf}
+use Rattle.add_edges.specs.Add.{keptEdges, newEdges, newVertices, addedTo}
+use Rattle.mending.specs.Replace.{replaceUse, replaceEdges, replaceWires}
+use Rattle.split_closed_edges.specs.Pass.{splitClosedEdges}
 use Rattle.nearest.specs.declared.Period.{Period}
 use Rattle.nearest.specs.declared.Period.the-variants.{Absent, Every}
 use Rattle.nearest.specs.Choice.{smaller}

@@ -10,7 +10,7 @@ use Rattle.compress.specs.Records.{pick}
 use Rattle.compress.specs.Refusals.{refusalNumber}
 use Rattle.compress.specs.Said.{Said, result, none, refused, onResult}
 use Rattle.compress.specs.Shell.{Slices, Counts}
-use Rattle.split_closed_edges.specs.Contract.{Outcome}
+use Rattle.cutting.specs.Contract.{Outcome}
 use Rattle.join.specs.Contract.{JoinOutcome}
 use Rattle.split.specs.Contract.{SplitCounts, Buffers, SplitOutcome}
 use Rattle.nearest.specs.declared.Period.{Period}

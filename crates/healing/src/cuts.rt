@@ -1,9 +1,9 @@
 // The call for hosts that cuts one edge.
-ghost use Rattle.split_closed_edges.specs.Contract.{lentOf};
+ghost use Rattle.cutting.specs.Contract.{lentOf};
 ghost use Rattle.one_cut.specs.Contract.{cutOutcome};
 ghost use Rattle.healing.specs.Host.{HostShell};
 use crate::answers;
-use split_closed_edges::Split;
+use cutting::Split;
 
 // Edge number `edge` is cut by the cuts in `cuts`, four floats each: parameter, x, y, z. No cut changes nothing, one cuts the edge and mends
 // every wire, in place, and two or more are refused (14). 0: done, and the three places hold the counts of vertices, edges and uses. Else the

@@ -7,9 +7,10 @@ mod periods;
 mod search;
 mod splits;
 
-ghost use Rattle.split_closed_edges.specs.Contract.{lentOf, outcomeOf};
+ghost use Rattle.cutting.specs.Contract.{lentOf};
+ghost use Rattle.split_closed_edges.specs.Contract.{outcomeOf};
 ghost use Rattle.healing.specs.Host.{HostShell};
-use split_closed_edges::Split;
+use cutting::Split;
 
 // Every closed edge is cut and every wire mended, in place. 0: done, and the three places hold the new counts of vertices, edges and uses.
 // Else the number of the refusal, and nothing lent is changed.

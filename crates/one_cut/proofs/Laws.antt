@@ -16,12 +16,12 @@ use Rattle.compress.specs.Rows.{edgeAt}
 use Rattle.compress.specs.Shell.{Shell, load}
 use Rattle.compress.proofs.Layouts.{length-rows, getD-rows}
 use Rattle.wires.specs.Connected.{replaced}
-use Rattle.split_closed_edges.specs.Cut.{halvesOf}
-use Rattle.split_closed_edges.specs.Keeps.{edgeIn, wireIn, UsesKnown, Keeps}
-use Rattle.split_closed_edges.specs.Pass.{replacedBy, replaceUse}
-use Rattle.split_closed_edges.specs.Contract.{lentOf}
-use Rattle.split_closed_edges.proofs.Keeping.{Halved, keeps, edges-replaced, wire-replaced, lent-known}
-use Rattle.one_cut.specs.declared.Cut.{Cut}
+use Rattle.cut_edge.specs.Cut.{halvesOf}
+use Rattle.cutting.specs.Keeps.{edgeIn, wireIn, UsesKnown, Keeps}
+use Rattle.mending.specs.Replace.{replacedBy, replaceUse}
+use Rattle.cutting.specs.Contract.{lentOf}
+use Rattle.cutting.proofs.Keeping.{Halved, keeps, edges-replaced, wire-replaced, lent-known}
+use Rattle.cuts.specs.declared.Cut.{Cut}
 use Rattle.one_cut.specs.Cut.{addedAt, cutOnce}
 use Rattle.one_cut.specs.Contract.{oneCutCause}
 use Rattle.one_cut.specs.Pieces.{piecesOf}

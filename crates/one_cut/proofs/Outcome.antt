@@ -10,6 +10,14 @@ use lib.Seq.{length-take-le, take-set-lt}
 use lib.Dec.{eqb, leb, ltb}
 use borrow.Author.Tests.{leb-false, ltb-false}
 use lib.Ieee.{Float, nan}
+use Rattle.compress.specs.declared.Refusal.the-variants.{NoRoom}
+use Rattle.compress.specs.Layout.{store}
+use Rattle.compress.specs.Shell.{Shell}
+use Rattle.checks.specs.Causes.{wiresCause}
+use Rattle.mending.specs.declared.Mend.{Mend}
+use Rattle.mending.specs.Steps.{InPlace}
+use Rattle.cuts.proofs.Small.{cuts-small}
+use Rattle.cutting.proofs.Outcome.{result-full, result-done}
 use Rattle.compress.specs.declared.Curve.{Curve}
 use Rattle.compress.specs.declared.Edge.{Edge}
 use Rattle.compress.specs.declared.Refusal.the-variants.{SeveralCuts}
@@ -18,25 +26,24 @@ use Rattle.compress.specs.Layout.{put, storeFrom, rows}
 use Rattle.compress.specs.Records.{pick, firstOf, lastOf}
 use Rattle.compress.specs.Refusals.{refusalOf}
 use Rattle.compress.specs.Rows.{curveOf, edgeOf, edgeAt, vertexAt, edgeNumbers, edgeFloats, vertexNumbers, vertexFloats}
-use Rattle.compress.specs.Said.{refused}
-use Rattle.compress.specs.Shell.{load, storeShell, countsOf, verticesFit, edgesFit, usesFit, hasRoom}
+use Rattle.compress.specs.Shell.{load, countsOf, verticesFit, edgesFit}
 use Rattle.compress.specs.Wires.{total, wiresOf, usesOf}
 use Rattle.compress.proofs.Layouts.{length-rows, rows-none, rows-first, store-first, store-none, store-append, store-set}
-use Rattle.compress.proofs.Room.{both, vertices-room, edges-room, uses-room}
+use Rattle.compress.proofs.Room.{both, vertices-room, edges-room}
 use Rattle.compress.proofs.Rows.{edge-numbers-fit, edge-floats-fit, edge-numbers-stand, edge-floats-stand}
-use Rattle.checks.specs.Causes.{when, floatCause, parameterCause, pointCause}
+use Rattle.checks.specs.Causes.{when}
 use Rattle.checks.proofs.Accepted.{passed, not-when}
 use Rattle.checks.proofs.Lowest.{lower-none}
-use Rattle.checks.proofs.Small.{when-small, pick-small, lower-small, lowest-small, float-small, parameter-small, refusal-told}
-use Rattle.split_closed_edges.specs.declared.Split.the-variants.{Done, Refused}
-use Rattle.split_closed_edges.specs.Cut.{halvesOf}
-use Rattle.split_closed_edges.specs.Pass.{replaceWires}
-use Rattle.split_closed_edges.specs.Steps.{Replaceable, Mended}
-use Rattle.split_closed_edges.specs.Contract.{Outcome, lentOf, leaves, inputCause}
-use Rattle.split_closed_edges.proofs.Outcome.{Accepted, accepted, replaceable-by, uses-over, lengths-over, vertices-stand, input-small, way-done, way-full, way-cause}
-use Rattle.one_cut.specs.declared.Cut.{Cut}
-use Rattle.one_cut.specs.Cut.{cutAt, addedAt, cutOnce}
-use Rattle.one_cut.specs.Contract.{cutCause, cutsCause, oneCutCause, onceOutcome, cutBy, cutOutcome}
+use Rattle.checks.proofs.Small.{when-small, lower-small, refusal-told}
+use Rattle.cutting.specs.declared.Split.the-variants.{Done, Refused}
+use Rattle.cut_edge.specs.Cut.{halvesOf}
+use Rattle.mending.specs.Replace.{replaceWires}
+use Rattle.cutting.specs.Contract.{lentOf, leaves, inputCause}
+use Rattle.cutting.proofs.Outcome.{Accepted, accepted, vertices-stand, input-small, way-cause}
+use Rattle.cuts.specs.declared.Cut.{Cut}
+use Rattle.cuts.specs.Cuts.{cutAt, cutsCause}
+use Rattle.one_cut.specs.Cut.{addedAt, cutOnce}
+use Rattle.one_cut.specs.Contract.{oneCutCause, onceOutcome, cutBy, cutOutcome}
 
 -- ---- the range of an edge's curve, in its row
 by-first : (b : Bool) (c d : Curve) → firstOf c ≡ firstOf d → firstOf (pick b c d) ≡ firstOf d
@@ -65,10 +72,10 @@ take-replicate a (suc n) zero h = absurd (none h)
 take-replicate {A} a (suc n) (suc k) h = ap (λ (l : List A). a ∷ l) (take-replicate a n k (omega arith))
 
 -- the front of a table of zeros with one entry set
-pub marked : (l : List ℕ) (n i m : ℕ) → l ≡ replicate (length l) 0 → i < n → n ≤ length l → take n (set l i m) ≡ addedAt n i m
+pub marked : (l l′ : List ℕ) (n i m : ℕ) → l′ ≡ set l i m → l ≡ replicate (length l) 0 → i < n → n ≤ length l → take n l′ ≡ addedAt n i m
 unfolding addedAt
-marked l n i m z lt h =
-    take-set-lt n l i m lt ∙ ap (λ (t : List ℕ). set t i m) (ap (take n) z ∙ take-replicate 0 n (length l) h)
+marked l l′ n i m q z lt h =
+    rw q (take-set-lt n l i m lt ∙ ap (λ (t : List ℕ). set t i m) (ap (take n) z ∙ take-replicate 0 n (length l) h))
 
 pub length-added : (n i m : ℕ) → length (addedAt n i m) ≡ n
 unfolding addedAt
@@ -90,70 +97,55 @@ pub added-small : (n i m k : ℕ) → m ≤ 4096 → getD (addedAt n i m) k 0 < 
 unfolding addedAt
 added-small n i m k h = set-small (replicate n 0) i m 2147483648 k (omega arith) (rw (all-alike {A = ℕ} 0 n k) (omega arith))
 
+-- the wires can be mended by the map
+pub map-mends : (l : List ℕ) (n i : ℕ) (us ls : List ℕ) (wires : ℕ) → l ≡ addedAt n i n → n ≤ 4096 → wiresCause n us ls wires ≡ 0
+    → (wiresCause (length l) us ls wires ≡ 0) × ((k : ℕ) → getD l k 0 < 2147483648)
+map-mends l n i us ls wires q h z =
+    let s : length l ≡ n = rw q (length-added n i n) in
+    (rw s z, λ k. rw q (added-small n i n k h))
+
 module _ (vn : List ℕ) (vf : List Float) (en : List ℕ) (ef : List Float) (us ls : List ℕ) (v e w i : ℕ) (c : Cut) where
-  abbrev pub edgeIn : Edge
+  abbrev edgeIn : Edge
   edgeIn = edgeAt en ef i
 
-  abbrev pub wiresOut : List (List ℕ)
-  wiresOut = replaceWires (addedAt e i e) (wiresOf us (take w ls))
+  abbrev after : Shell
+  after = cutOnce (load (lentOf vn vf en ef us ls v e w)) i edgeIn c
 
-  -- the wires can be mended
-  pub replaceable : inputCause (lentOf vn vf en ef us ls v e w) ≡ 0 → (added out ol : List ℕ) → added ≡ addedAt e i e
-      → total (take w ls) * 2 ≤ length out → 64 ≤ length ol → Replaceable us ls w added out ol
-  replaceable z added out ol q ho hl =
-      let A = accepted vn vf en ef us ls v e w z in
-      replaceable-by vn vf en ef us ls v e w A added out ol (rw q (length-added e i e)) (λ k. rw q (added-small e i e k (A .edges .below))) ho hl
+  module _ (z : inputCause (lentOf vn vf en ef us ls v e w) ≡ 0) (room : ℕ)
+      (has : (k : ℕ) → leb k room ≡ (verticesFit vn vf (v + k) && edgesFit en ef (e + k)))
+      (us′ ls′ : List ℕ) (m : Mend) (M : InPlace (replaceWires (addedAt e i e) (wiresOf us (take w ls))) (leb 1 room) us ls us′ ls′ m) where
+    A : Accepted vn vf en ef us ls v e w
+    A = accepted vn vf en ef us ls v e w z
 
-  -- what is worked out before anything lent is written: the mended wires
-  pub record Worked (n : ℕ) (out ol : List ℕ) : Type 0 where
-    pub accepted : Accepted vn vf en ef us ls v e w
-    pub mended : Mended wiresOut out ol n
-
-  pub worked : inputCause (lentOf vn vf en ef us ls v e w) ≡ 0 → (added : List ℕ) (n : ℕ) (out ol : List ℕ) → added ≡ addedAt e i e
-      → Mended (replaceWires added (wiresOf us (take w ls))) out ol n → Worked n out ol
-  worked z added n out ol q M = record { accepted = accepted vn vf en ef us ls v e w z; mended = rw q at M }
-
-  module _ (n : ℕ) (out ol : List ℕ) (W : Worked n out ol) where
-    counts : countsOf (cutOnce (load (lentOf vn vf en ef us ls v e w)) i edgeIn c) ≡ record { vertices = v + 1; edges = e + 1; uses = n }
-    unfolding countsOf cutOnce load
-    counts =
+    vertices-are : length (after .vertices) ≡ v + 1
+    unfolding cutOnce load
+    vertices-are =
         let vs = rows (vertexAt vn vf) 0 v in
-        let es = rows (edgeAt en ef) 0 e in
-        let lv : length vs ≡ v = length-rows (vertexAt vn vf) 0 v in
-        let le : length es ≡ e = length-rows (edgeAt en ef) 0 e in
-        let h = halvesOf edgeIn (c .t) (length vs) in
-        let a : length (vs ++ (Given (c .x) (c .y) (c .z) ∷ [])) ≡ v + 1 = length-append vs (Given (c .x) (c .y) (c .z) ∷ []) ∙ rw lv in
-        let b : length (set es i (h .old) ++ (h .new ∷ [])) ≡ e + 1 = length-append (set es i (h .old)) (h .new ∷ []) ∙ rw (length-set es i (h .old), le) in
-        rw (a, b, le, ← (W .mended .count))
+        length-append vs (Given (c .x) (c .y) (c .z) ∷ []) ∙ rw (length-rows (vertexAt vn vf) 0 v)
 
-    room-is : hasRoom (lentOf vn vf en ef us ls v e w .slices) (countsOf (cutOnce (load (lentOf vn vf en ef us ls v e w)) i edgeIn c))
-        ≡ (verticesFit vn vf (v + 1) && edgesFit en ef (e + 1) && usesFit us n)
-    unfolding hasRoom
-    room-is = rw counts
+    edges-are : length (after .edges) ≡ e + 1
+    unfolding cutOnce load
+    edges-are =
+        let es = rows (edgeAt en ef) 0 e in
+        let h = halvesOf edgeIn (c .t) (length (rows (vertexAt vn vf) 0 v)) in
+        length-append (set es i (h .old)) (h .new ∷ []) ∙ rw (length-set es i (h .old), length-rows (edgeAt en ef) 0 e)
+
+    mended : InPlace (after .wires) (leb 1 room) us ls us′ ls′ m
+    unfolding cutOnce load
+    mended = rw (length-rows (edgeAt en ef) 0 e) M
 
     -- no room: 6, and nothing written
-    pub outcome-full : (x y z : Bool) → x ≡ verticesFit vn vf (v + 1) → y ≡ edgesFit en ef (e + 1) → z ≡ usesFit us n → (x && y && z) ≡ false
-        → record { said = refused 6; slices = lentOf vn vf en ef us ls v e w .slices } ≡ onceOutcome (lentOf vn vf en ef us ls v e w) i c
+    pub outcome-full : m .fits ≡ false → leaves (Refused NoRoom) vn vf en ef us′ ls′ ≡ onceOutcome (lentOf vn vf en ef us ls v e w) i c
     unfolding onceOutcome
-    outcome-full x y z p q r t = sym (way-full 0 _ _ refl (room-is ∙ rw (← p, ← q, ← r) t))
+    outcome-full t = result-full vn vf en ef us ls v e w after 1 vertices-are edges-are room has us′ ls′ m mended t
 
-    -- room: every table can be written
-    pub record Roomy : Type 0 where
-      pub vertices : verticesFit vn vf (v + 1) ≡ true
-      pub edges : edgesFit en ef (e + 1) ≡ true
-      pub uses : usesFit us n ≡ true
-
-    pub roomy : (x y z : Bool) → x ≡ verticesFit vn vf (v + 1) → y ≡ edgesFit en ef (e + 1) → z ≡ usesFit us n → (x && y && z) ≡ true → Roomy
-    roomy x y z p q r t =
-        let a = both (x && y) z t in
-        let b = both x y (a .0) in
-        record { vertices = sym p ∙ b .0; edges = sym q ∙ b .1; uses = sym r ∙ a .1 }
-
-    pub places : Roomy → ((v < 4096) × (v * 3 + 3 ≤ length vn) × (v * 7 + 7 ≤ length vf)) × ((e * 4 + 4 ≤ length en) × (e * 6 + 6 ≤ length ef)) × ((n ≤ 1024) × (n ≤ length us))
-    places R =
-        let a = vertices-room vn vf (v + 1) (R .vertices) in
-        let b = edges-room en ef (e + 1) (R .edges) in
-        ((omega arith, omega arith, omega arith), (omega arith, omega arith), uses-room us n (R .uses))
+    -- room: a row for the new vertex, and one for the new edge
+    pub places : m .fits ≡ true → ((v < 4096) × (v * 3 + 3 ≤ length vn) × (v * 7 + 7 ≤ length vf)) × ((e * 4 + 4 ≤ length en) × (e * 6 + 6 ≤ length ef))
+    places t =
+        let f = both (verticesFit vn vf (v + 1)) (edgesFit en ef (e + 1)) (sym (has 1) ∙ both (leb 1 room) _ (sym (M .fits) ∙ t) .0) in
+        let a = vertices-room vn vf (v + 1) (f .0) in
+        let b = edges-room en ef (e + 1) (f .1) in
+        ((omega arith, omega arith, omega arith), (omega arith, omega arith))
 
     -- the edges lent, stored again with edge i cut and the new one behind them: two rows are put
     edges-put : i < e → (n₀ : ℕ)
@@ -167,28 +159,34 @@ module _ (vn : List ℕ) (vf : List Float) (en : List ℕ) (ef : List Float) (us
         let z : 0 + i ≡ i = omega arith in
         let l : 0 + length (set es i (h .old)) ≡ e = omega (arith, length-set es i (h .old), length-rows (edgeAt en ef) 0 e) in
         let p : storeFrom edgeNumbers en 0 (set es i (h .old)) ≡ put edgeNumbers en i (h .old)
-        = rw z at (store-set edgeNumbers edge-numbers-fit en (edgeAt en ef) 0 e i (h .old) lt (λ j lo hi. edge-numbers-stand en ef j (W .accepted .edges .kinds j (omega arith)))) in
+        = rw z at (store-set edgeNumbers edge-numbers-fit en (edgeAt en ef) 0 e i (h .old) lt (λ j lo hi. edge-numbers-stand en ef j (A .edges .kinds j (omega arith)))) in
         let q : storeFrom edgeFloats ef 0 (set es i (h .old)) ≡ put edgeFloats ef i (h .old)
         = rw z at (store-set edgeFloats edge-floats-fit ef (edgeAt en ef) 0 e i (h .old) lt (λ j lo hi. edge-floats-stand en ef j)) in (
           rw (store-append edgeNumbers (set es i (h .old)) (h .new ∷ []) en 0, l, p, store-first, store-none),
           rw (store-append edgeFloats (set es i (h .old)) (h .new ∷ []) ef 0, l, q, store-first, store-none),
         )
 
-    pub outcome-done : (vn′ : List ℕ) (vf′ : List Float) (en′ : List ℕ) (ef′ : List Float) (us′ ls′ : List ℕ) → Roomy → i < e
+    -- the result, stored: one vertex and two edges are put
+    tables : i < e → (store vertexNumbers vn (after .vertices) ≡ put vertexNumbers vn v (Given (c .x) (c .y) (c .z)))
+        × (store vertexFloats vf (after .vertices) ≡ put vertexFloats vf v (Given (c .x) (c .y) (c .z)))
+        × (store edgeNumbers en (after .edges) ≡ put edgeNumbers (put edgeNumbers en i (halvesOf edgeIn (c .t) v .old)) e (halvesOf edgeIn (c .t) v .new))
+        × (store edgeFloats ef (after .edges) ≡ put edgeFloats (put edgeFloats ef i (halvesOf edgeIn (c .t) v .old)) e (halvesOf edgeIn (c .t) v .new))
+    unfolding cutOnce load
+    tables lt =
+        let lv : length (rows (vertexAt vn vf) 0 v) ≡ v = length-rows (vertexAt vn vf) 0 v in
+        let s = vertices-stand vn vf en ef us ls v e w A (Given (c .x) (c .y) (c .z) ∷ []) in
+        let t = edges-put lt v in
+        (rw (s .0, store-first, store-none), rw (s .1, store-first, store-none), rw lv (t .0), rw lv (t .1))
+
+    pub outcome-done : (vn′ : List ℕ) (vf′ : List Float) (en′ : List ℕ) (ef′ : List Float) → m .fits ≡ true → i < e
         → vn′ ≡ put vertexNumbers vn v (Given (c .x) (c .y) (c .z)) → vf′ ≡ put vertexFloats vf v (Given (c .x) (c .y) (c .z))
         → en′ ≡ put edgeNumbers (put edgeNumbers en i (halvesOf edgeIn (c .t) v .old)) e (halvesOf edgeIn (c .t) v .new)
         → ef′ ≡ put edgeFloats (put edgeFloats ef i (halvesOf edgeIn (c .t) v .old)) e (halvesOf edgeIn (c .t) v .new)
-        → us′ ≡ take n out ++ drop n us → ls′ ≡ take w ol ++ drop w ls
-        → leaves (Done (v + 1) (e + 1) n) vn′ vf′ en′ ef′ us′ ls′ ≡ onceOutcome (lentOf vn vf en ef us ls v e w) i c
-    unfolding onceOutcome storeShell cutOnce load
-    outcome-done vn′ vf′ en′ ef′ us′ ls′ R lt ev evf ee eef eu el =
-        let lv : length (rows (vertexAt vn vf) 0 v) ≡ v = length-rows (vertexAt vn vf) 0 v in
-        let le : length (rows (edgeAt en ef) 0 e) ≡ e = length-rows (edgeAt en ef) 0 e in
-        let u = uses-over vn vf en ef us ls v e w wiresOut n out ol us′ (W .mended) eu in
-        let h = lengths-over vn vf en ef us ls v e w (addedAt e i e) n out ol ls′ (W .accepted) (W .mended) el in
-        let s = vertices-stand vn vf en ef us ls v e w (W .accepted) (Given (c .x) (c .y) (c .z) ∷ []) in
-        let t = edges-put lt v in
-        rw (way-done 0 _ _ refl (room-is ∙ rw (R .vertices, R .edges, R .uses)), counts, lv, le, s .0, s .1, t .0, t .1, store-first, store-none, store-first, store-none, ev, evf, ee, eef, u, h)
+        → leaves (Done (v + 1) (e + 1) (m .uses)) vn′ vf′ en′ ef′ us′ ls′ ≡ onceOutcome (lentOf vn vf en ef us ls v e w) i c
+    unfolding onceOutcome
+    outcome-done vn′ vf′ en′ ef′ t lt ev evf ee eef =
+        let s = tables lt in
+        result-done vn vf en ef us ls v e w after 1 vertices-are edges-are room has us′ ls′ m mended vn′ vf′ en′ ef′ t (ev ∙ sym (s .0)) (evf ∙ sym (s .1)) (ee ∙ sym (s .2)) (eef ∙ sym (s .3))
 
 -- ---- the call: its ways out
 -- the uses of the wires are those that lie in front
@@ -202,22 +200,11 @@ uses-lent us (n ∷ ls) h =
     length-append (take n us) (usesOf (wiresOf (drop n us) ls)) ∙ rw (a, r)
 
 module _ (vn : List ℕ) (vf : List Float) (en : List ℕ) (ef : List Float) (us ls : List ℕ) (v e w i : ℕ) (cs : List Float) (n : ℕ) where
-  cut-small : (t0 t1 : Float) (c : Cut) → cutCause t0 t1 c ≤ 15
-  unfolding cutCause pointCause
-  cut-small t0 t1 c =
-      lower-small (parameterCause t0 t1 (c .t)) _ (parameter-small t0 t1 (c .t))
-      (lower-small (floatCause (c .x)) _ (float-small (c .x)) (lower-small (floatCause (c .y)) _ (float-small (c .y)) (float-small (c .z))))
-
-  cuts-small : (t0 t1 : Float) → cutsCause t0 t1 cs n ≤ 15
-  unfolding cutsCause
-  cuts-small t0 t1 =
-      pick-small (ltb (length cs) (n * 4)) _ (lowest-small (λ k. cutCause t0 t1 (cutAt cs k)) n (λ k. cut-small t0 t1 (cutAt cs k)))
-
   cause-small : oneCutCause (lentOf vn vf en ef us ls v e w) i cs n ≤ 15
   unfolding oneCutCause
   cause-small =
       lower-small (inputCause (lentOf vn vf en ef us ls v e w)) _ (input-small vn vf en ef us ls v e w)
-      (lower-small (when (leb e i) 3) _ (when-small (leb e i) 3 (omega arith)) (cuts-small (firstOf (edgeAt en ef i .curve)) (lastOf (edgeAt en ef i .curve))))
+      (lower-small (when (leb e i) 3) _ (when-small (leb e i) 3 (omega arith)) (cuts-small (firstOf (edgeAt en ef i .curve)) (lastOf (edgeAt en ef i .curve)) cs n))
 
   -- a cause: its refusal, and nothing written
   pub call-cause : (k : ℕ) → k ≡ oneCutCause (lentOf vn vf en ef us ls v e w) i cs n → (k ≡ 0 → ⊥)
@@ -259,7 +246,5 @@ module _ (vn : List ℕ) (vf : List Float) (en : List ℕ) (ef : List Float) (us
         rw (by-cuts, p, r)
 
     -- one
-    pub call-once : n ≡ 1 → (o : Outcome) (c : Cut) → c ≡ cutAt cs 0 → o ≡ onceOutcome (lentOf vn vf en ef us ls v e w) i c
-        → o ≡ cutOutcome (lentOf vn vf en ef us ls v e w) i cs n
-    call-once p o c d g =
-        rw (by-cuts, p, rows-first (cutAt cs) 0 1 0 refl, rows-none (cutAt cs) 1, ← d) g
+    pub call-once : n ≡ 1 → (c : Cut) → c ≡ cutAt cs 0 → onceOutcome (lentOf vn vf en ef us ls v e w) i c ≡ cutOutcome (lentOf vn vf en ef us ls v e w) i cs n
+    call-once p c d = rw (by-cuts, p, rows-first (cutAt cs) 0 1 0 refl, rows-none (cutAt cs) 1, ← d)

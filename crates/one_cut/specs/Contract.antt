@@ -1,29 +1,20 @@
 -- The contract of the call `cut_edge_by_intersections`: one answer and one content of every lent slice for each input. Definitions only.
 use mathlib.Core.List.{List, [], _∷_}
-use Prim.Native.Nat.{ℕ, _*_}
-use lib.Dec.{ltb}
+use Prim.Native.Nat.{ℕ}
 use lib.Ieee.{Float}
-use lib.ListN.{length}
 use Rattle.compress.specs.declared.Curve.{Curve}
 use Rattle.compress.specs.Layout.{rows}
-use Rattle.compress.specs.Records.{pick, firstOf, lastOf}
+use Rattle.compress.specs.Records.{firstOf, lastOf}
 use Rattle.compress.specs.Rows.{edgeAt}
 use Rattle.compress.specs.Said.{result, refused}
 use Rattle.compress.specs.Shell.{Lent, load, countsOf}
-use Rattle.checks.specs.Causes.{lowerOf, lowestOf, edgeNumberCause, parameterCause, pointCause}
-use Rattle.split_closed_edges.specs.Contract.{Outcome, inputCause, resultOf, causeOr}
-use Rattle.one_cut.specs.declared.Cut.{Cut}
-use Rattle.one_cut.specs.Cut.{cutAt, cutOnce}
+use Rattle.checks.specs.Causes.{lowerOf, edgeNumberCause}
+use Rattle.cutting.specs.Contract.{Outcome, inputCause, resultOf, causeOr}
+use Rattle.cuts.specs.declared.Cut.{Cut}
+use Rattle.cuts.specs.Cuts.{cutAt, cutsCause}
+use Rattle.one_cut.specs.Cut.{cutOnce}
 
 -- ---- causes
-
--- 5: "cut .. parameter outside its curve's t0 to t1"; 4 for each of its numbers
-unfoldable pub cutCause : Float → Float → Cut → ℕ
-cutCause t0 t1 c = lowerOf (parameterCause t0 t1 (c .t)) (pointCause (c .x) (c .y) (c .z))
-
--- n cuts: "a count .. is above what was lent", and every cut, used or not
-unfoldable pub cutsCause : Float → Float → List Float → ℕ → ℕ
-cutsCause t0 t1 cs n = pick (ltb (length cs) (n * 4)) 1 (lowestOf (λ i. cutCause t0 t1 (cutAt cs i)) n)
 
 -- 1 to 5, over all that was lent: the shell, the edge number i, and n cuts. (Where there is no edge i, 3 is below all that its curve could earn.)
 abbrev pub curveAt : Lent → ℕ → Curve

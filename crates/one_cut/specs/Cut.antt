@@ -1,21 +1,13 @@
 -- One cut (`cut_edge_by_intersections`, `insert_new_edges`) of a shell. Definitions only.
 use mathlib.Core.List.{List, [], _∷_, _++_}
-use Prim.Native.Nat.{ℕ, _+_, _*_}
-use lib.Ieee.{Float, nan}
-use lib.ListN.{length, getD, set, replicate}
+use Prim.Native.Nat.{ℕ, _+_}
+use lib.ListN.{length, set, replicate}
 use Rattle.compress.specs.declared.Edge.{Edge}
 use Rattle.compress.specs.declared.Vertex.the-variants.{Given}
 use Rattle.compress.specs.Shell.{Shell}
-use Rattle.split_closed_edges.specs.Cut.{halvesOf}
-use Rattle.split_closed_edges.specs.Pass.{replaceWires}
-use Rattle.one_cut.specs.declared.Cut.{Cut}
-
--- a cut is its parameter and its point: four cells of a row
-abbrev pub cutOf : Float → Float → Float → Float → Cut
-cutOf t x y z = record { t = t; x = x; y = y; z = z }
-
-abbrev pub cutAt : List Float → ℕ → Cut
-cutAt cs i = cutOf (getD cs (i * 4) nan) (getD cs (i * 4 + 1) nan) (getD cs (i * 4 + 2) nan) (getD cs (i * 4 + 3) nan)
+use Rattle.cut_edge.specs.Cut.{halvesOf}
+use Rattle.mending.specs.Replace.{replaceWires}
+use Rattle.cuts.specs.declared.Cut.{Cut}
 
 -- the map of the closed-edge pass where of n edges just edge i is cut, and m is cut off it
 unfoldable pub addedAt : ℕ → ℕ → ℕ → List ℕ

@@ -6,9 +6,8 @@ use lib.Ieee.{Float, binary64, ofBits}
 use Rattle.compress.specs.declared.Curve.the-variants.{Span}
 use Rattle.compress.specs.declared.Edge.{Edge}
 use Rattle.compress.specs.declared.Vertex.the-variants.{Given}
-use Rattle.split_closed_edges.specs.Cut.{halvesOf}
-use Rattle.split_closed_edges.specs.Pass.{replaceUse, replaceEdges, replaceWires}
-use Rattle.one_cut.specs.declared.Cut.{Cut}
+use Rattle.cut_edge.specs.Cut.{halvesOf}
+use Rattle.mending.specs.Replace.{replaceUse, replaceEdges, replaceWires}
 use Rattle.one_cut.specs.Cut.{addedAt, cutOnce}
 
 abbrev pub zero64 : Float

@@ -2,4 +2,5 @@
 pub mod Cut
 pub mod Pieces
 pub mod Contract
+pub mod Steps
 pub mod Examples

@@ -1,6 +1,7 @@
 // The steps of the healing, each a call of the port: what it answers is written, and the shell comes back as the step leaves it.
 use crate::shell;
 use compress::Refusal;
+use cutting::Split;
 use join::Join;
 use nearest::Ends;
 use nearest::NearestCopy;
@@ -9,7 +10,6 @@ use nearest::Sorted;
 use shell::Shell;
 use shell::Wires;
 use split::Boundaries;
-use split_closed_edges::Split;
 
 // Two vertices, if there are any.
 pub struct Divisor {

@@ -1,7 +1,7 @@
 // Replays one stored call of split_closed_edges.
 ghost use Rattle.stored.specs.Compared.{Remembers};
 use answers::Answer;
-use split_closed_edges::Split;
+use cutting::Split;
 use stored::answers;
 use stored::cells;
 use stored::words;

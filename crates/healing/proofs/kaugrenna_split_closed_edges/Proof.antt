@@ -1,7 +1,7 @@
 -- `healing::kaugrenna_split_closed_edges` meets its contract. Assumes nothing.
 use mathlib.Core.Path.{refl}
 use borrow.Author.Needs.{needs}
-use Rattle.split_closed_edges.specs.Contract.{saidOf}
+use Rattle.cutting.specs.Contract.{saidOf}
 use Rattle.healing.proofs.Told.{told-result, told-refused, shell-told}
 use Rattle.healing.proofs.kaugrenna_split_closed_edges.Statement.{statement}
 use Rattle.healing.proofs.kaugrenna_split_closed_edges.Tie as tie

@@ -1,33 +1,27 @@
--- `one_cut::cut_checked` meets its contract: the arrays have room for a shell of either size. Assumes nothing.
-use mathlib.Core.Path.{refl}
+-- `one_cut::cut_checked` meets its contract. Assumes nothing.
 use native.Mathlib.Omega.{arith}
+use Rattle.cutting.proofs.Outcome.{accepted, no-cause}
+use Rattle.one_cut.proofs.Outcome.{places, outcome-full, outcome-done}
 use borrow.Author.Needs.{needs}
-use Rattle.split_closed_edges.proofs.Outcome.{accepted}
 use Rattle.one_cut.proofs.cut_checked.Statement.{statement}
 use Rattle.one_cut.proofs.cut_checked.Tie as tie
 
-total-uses-requires : tie.Need-total-uses-requires
-total-uses-requires c κs =
-    let A = accepted _ _ _ _ _ _ _ _ _ (c .before .before .before .before .before .before .before .pre .0) in
-    (A .wires .below, A .wires .lengths)
+cut-room-requires : tie.Need-cut-room-requires
+cut-room-requires c κs = let A = accepted _ _ _ _ _ _ _ _ _ (c .before .before .before .before .before .before .before .before .before .before .pre .0) in
+    ((A .vertices .below, A .vertices .numbers, A .vertices .floats), (A .edges .below, A .edges .numbers, A .edges .floats))
 
-is-small-requires : tie.Need-is-small-requires
-is-small-requires c κs = search needs
+mend-cut-requires : tie.Need-mend-cut-requires
+mend-cut-requires c κs = (c .before .before .before .before .before .before .before .before .before .before .before .before .before .pre .1, accepted _ _ _ _ _ _ _ _ _ (c .before .before .before .before .before .before .before .before .before .before .before .before .before .pre .0) .edges .below, no-cause _ _ _ _ _ _ _ _ _ (c .before .before .before .before .before .before .before .before .before .before .before .before .before .pre .0) .2)
 
-slice-aggregate-cut-within : tie.Need-slice-aggregate-cut-within
-slice-aggregate-cut-within c = search needs
+put-cut-requires : tie.Need-put-cut-requires
+put-cut-requires c κs = let p = places _ _ _ _ _ _ _ _ _ (c .before .before .before .before .before .before .before .before .before .before .before .before .before .before .before .before .before .before .before .before .before .before .before .args .i) (c .before .before .before .before .before .before .before .before .before .before .before .before .before .before .before .before .before .before .before .before .before .before .before .args .c) (c .before .before .before .before .before .before .before .before .before .before .before .before .before .before .before .before .before .before .before .before .before .before .before .pre .0) _ (c .before .before .before .before .before .before .before .before .before .before .before .before .cut-room .ensures) _ _ _ (c .before .before .before .before .before .before .before .before .before .mend-cut .ensures) (c .before .before .before .before .if1 .taken) in
+    (p .0, (c .before .before .before .before .before .before .before .before .before .before .before .before .before .before .before .before .before .before .before .before .before .before .before .pre .1, p .1 .0, p .1 .1))
 
-slice-aggregate-cut-within-2 : tie.Need-slice-aggregate-cut-within-2
-slice-aggregate-cut-within-2 c = search needs
+add-t36 : tie.Need-add-t36
+add-t36 c = omega (arith, accepted _ _ _ _ _ _ _ _ _ (c .before .before .before .before .before .before .before .before .before .before .before .before .before .before .before .before .before .before .before .before .before .before .before .before .before .before .before .before .before .before .before .before .pre .0) .vertices .below)
 
-slice-aggregate-cut-within-3 : tie.Need-slice-aggregate-cut-within-3
-slice-aggregate-cut-within-3 c = search needs
-
-cut-within-requires : tie.Need-cut-within-requires
-cut-within-requires c κs =
-    let A = accepted _ _ _ _ _ _ _ _ _ (c .before .before .before .before .before .before .before .before .before .before .before .before .before .before .before .before .before .before .before .pre .0) in
-    let s = c .before .before .before .before .before .before .before .before .before .before .is-small .ensures (c .before .before .before .before .before .before .before .before .before .if1 .taken) in
-    (c .before .before .before .before .before .before .before .before .before .before .before .before .before .before .before .before .before .before .before .pre, (refl, omega (arith, s .0), omega (arith, s .1, c .before .before .before .before .before .before .before .before .before .before .before .total-uses .ensures), omega arith))
+add-t37 : tie.Need-add-t37
+add-t37 c = omega (arith, accepted _ _ _ _ _ _ _ _ _ (c .before .before .before .before .before .before .before .before .before .before .before .before .before .before .before .before .before .before .before .before .before .before .before .before .before .before .before .before .before .before .before .before .pre .0) .edges .below)
 
 same-length : tie.Need-same-length
 same-length c = search needs
@@ -48,21 +42,8 @@ same-length-6 : tie.Need-same-length-6
 same-length-6 c = search needs
 
 returns : tie.Need-returns
-returns c = search needs
-
-slice-aggregate-cut-within-4 : tie.Need-slice-aggregate-cut-within-4
-slice-aggregate-cut-within-4 c = search needs
-
-slice-aggregate-cut-within-5 : tie.Need-slice-aggregate-cut-within-5
-slice-aggregate-cut-within-5 c = search needs
-
-slice-aggregate-cut-within-6 : tie.Need-slice-aggregate-cut-within-6
-slice-aggregate-cut-within-6 c = search needs
-
-cut-within-requires-2 : tie.Need-cut-within-requires-2
-cut-within-requires-2 c κs =
-    let A = accepted _ _ _ _ _ _ _ _ _ (c .before .before .before .before .before .before .before .before .before .before .before .before .before .before .before .before .before .before .before .pre .0) in
-    (c .before .before .before .before .before .before .before .before .before .before .before .before .before .before .before .before .before .before .before .pre, (refl, omega (arith, A .edges .below), omega (arith, A .wires .few), omega arith))
+returns c = let p = c .before .before .before .before .before .before .before .before .put-cut .ensures in
+    outcome-done _ _ _ _ _ _ _ _ _ (c .before .before .before .before .before .before .before .before .before .before .before .before .before .before .before .before .before .before .before .before .before .before .before .before .before .before .before .before .before .before .before .before .args .i) (c .before .before .before .before .before .before .before .before .before .before .before .before .before .before .before .before .before .before .before .before .before .before .before .before .before .before .before .before .before .before .before .before .args .c) (c .before .before .before .before .before .before .before .before .before .before .before .before .before .before .before .before .before .before .before .before .before .before .before .before .before .before .before .before .before .before .before .before .pre .0) _ (c .before .before .before .before .before .before .before .before .before .before .before .before .before .before .before .before .before .before .before .before .before .cut-room .ensures) _ _ _ (c .before .before .before .before .before .before .before .before .before .before .before .before .before .before .before .before .before .before .mend-cut .ensures) _ _ _ _ (c .before .before .before .before .before .before .before .before .before .before .before .before .before .if1 .taken) (c .before .before .before .before .before .before .before .before .before .before .before .before .before .before .before .before .before .before .before .before .before .before .before .before .before .before .before .before .before .before .before .before .pre .1) (p .0) (p .1 .0) (p .1 .1 .0) (p .1 .1 .1)
 
 same-length-7 : tie.Need-same-length-7
 same-length-7 c = search needs
@@ -83,18 +64,17 @@ same-length-12 : tie.Need-same-length-12
 same-length-12 c = search needs
 
 returns-2 : tie.Need-returns-2
-returns-2 c = search needs
+returns-2 c = outcome-full _ _ _ _ _ _ _ _ _ (c .before .before .before .before .before .before .before .before .before .before .before .before .before .before .before .before .before .before .before .args .i) (c .before .before .before .before .before .before .before .before .before .before .before .before .before .before .before .before .before .before .before .args .c) (c .before .before .before .before .before .before .before .before .before .before .before .before .before .before .before .before .before .before .before .pre .0) _ (c .before .before .before .before .before .before .before .before .cut-room .ensures) _ _ _ (c .before .before .before .before .before .mend-cut .ensures) (c .if1 .left)
 
 pub cut-checked-spec : {M : Type 1} → statement M
 cut-checked-spec =
     tie.close
     (tie.spec
-    total-uses-requires
-    is-small-requires
-    slice-aggregate-cut-within
-    slice-aggregate-cut-within-2
-    slice-aggregate-cut-within-3
-    cut-within-requires
+    cut-room-requires
+    mend-cut-requires
+    put-cut-requires
+    add-t36
+    add-t37
     same-length
     same-length-2
     same-length-3
@@ -102,10 +82,6 @@ cut-checked-spec =
     same-length-5
     same-length-6
     returns
-    slice-aggregate-cut-within-4
-    slice-aggregate-cut-within-5
-    slice-aggregate-cut-within-6
-    cut-within-requires-2
     same-length-7
     same-length-8
     same-length-9

@@ -1,32 +1,26 @@
--- `split_closed_edges::split_checked` meets its contract: the arrays have room for a shell of either size. Assumes nothing.
+-- `split_closed_edges::split_checked` meets its contract. Assumes nothing.
 use native.Mathlib.Omega.{arith}
+use Rattle.cutting.proofs.Outcome.{accepted}
+use Rattle.split_closed_edges.proofs.Outcome.{closable, cuts-le, addable, outcome-full, outcome-done}
 use borrow.Author.Needs.{needs}
-use Rattle.split_closed_edges.proofs.Outcome.{accepted}
 use Rattle.split_closed_edges.proofs.split_checked.Statement.{statement}
 use Rattle.split_closed_edges.proofs.split_checked.Tie as tie
 
-total-uses-requires : tie.Need-total-uses-requires
-total-uses-requires c κs =
-    let A = accepted _ _ _ _ _ _ _ _ _ (c .before .before .before .before .before .before .before .pre) in
-    (A .wires .below, A .wires .lengths)
+cut-room-requires : tie.Need-cut-room-requires
+cut-room-requires c κs = let A = accepted _ _ _ _ _ _ _ _ _ (c .before .before .before .before .before .before .before .before .before .before .pre) in
+    ((A .vertices .below, A .vertices .numbers, A .vertices .floats), (A .edges .below, A .edges .numbers, A .edges .floats))
 
-is-small-requires : tie.Need-is-small-requires
-is-small-requires c κs = search needs
+mend-closed-requires : tie.Need-mend-closed-requires
+mend-closed-requires c κs = closable _ _ _ _ _ _ _ _ _ (c .before .before .before .before .before .before .before .before .before .before .before .before .before .before .pre)
 
-slice-aggregate-split-within : tie.Need-slice-aggregate-split-within
-slice-aggregate-split-within c = search needs
+add-edges-requires : tie.Need-add-edges-requires
+add-edges-requires c κs = addable _ _ _ _ _ _ _ _ _ (c .before .before .before .before .before .before .before .before .before .before .before .before .before .before .before .before .before .before .before .before .before .before .before .before .pre) _ (c .before .before .before .before .before .before .before .before .before .before .before .before .before .cut-room .ensures) _ _ _ (c .before .before .before .before .before .before .before .before .before .mend-closed .ensures) (c .before .before .before .before .if1 .taken)
 
-slice-aggregate-split-within-2 : tie.Need-slice-aggregate-split-within-2
-slice-aggregate-split-within-2 c = search needs
+add-t36 : tie.Need-add-t36
+add-t36 c = (omega (arith, cuts-le _ _ _ _ _ _ _ _ _ (c .before .before .before .before .before .before .before .before .before .before .before .before .before .before .before .before .before .before .before .before .before .before .before .before .before .before .before .before .before .before .before .before .before .before .pre) _ (c .before .before .before .before .before .before .before .before .before .before .before .before .before .before .before .before .before .before .before .before .before .before .before .cut-room .ensures) _ _ _ (c .before .before .before .before .before .before .before .before .before .before .before .before .before .before .before .before .before .before .before .mend-closed .ensures), accepted _ _ _ _ _ _ _ _ _ (c .before .before .before .before .before .before .before .before .before .before .before .before .before .before .before .before .before .before .before .before .before .before .before .before .before .before .before .before .before .before .before .before .before .before .pre) .vertices .below))
 
-slice-aggregate-split-within-3 : tie.Need-slice-aggregate-split-within-3
-slice-aggregate-split-within-3 c = search needs
-
-split-within-requires : tie.Need-split-within-requires
-split-within-requires c κs =
-    let A = accepted _ _ _ _ _ _ _ _ _ (c .before .before .before .before .before .before .before .before .before .before .before .before .before .before .before .before .before .before .before .pre) in
-    let s = c .before .before .before .before .before .before .before .before .before .before .is-small .ensures (c .before .before .before .before .before .before .before .before .before .if1 .taken) in
-    (c .before .before .before .before .before .before .before .before .before .before .before .before .before .before .before .before .before .before .before .pre, (omega (arith, s .0), omega (arith, s .1, c .before .before .before .before .before .before .before .before .before .before .before .total-uses .ensures), omega arith))
+add-t37 : tie.Need-add-t37
+add-t37 c = (omega (arith, cuts-le _ _ _ _ _ _ _ _ _ (c .before .before .before .before .before .before .before .before .before .before .before .before .before .before .before .before .before .before .before .before .before .before .before .before .before .before .before .before .before .before .before .before .before .before .before .pre) _ (c .before .before .before .before .before .before .before .before .before .before .before .before .before .before .before .before .before .before .before .before .before .before .before .before .cut-room .ensures) _ _ _ (c .before .before .before .before .before .before .before .before .before .before .before .before .before .before .before .before .before .before .before .before .mend-closed .ensures), accepted _ _ _ _ _ _ _ _ _ (c .before .before .before .before .before .before .before .before .before .before .before .before .before .before .before .before .before .before .before .before .before .before .before .before .before .before .before .before .before .before .before .before .before .before .before .pre) .edges .below))
 
 same-length : tie.Need-same-length
 same-length c = search needs
@@ -47,21 +41,7 @@ same-length-6 : tie.Need-same-length-6
 same-length-6 c = search needs
 
 returns : tie.Need-returns
-returns c = search needs
-
-slice-aggregate-split-within-4 : tie.Need-slice-aggregate-split-within-4
-slice-aggregate-split-within-4 c = search needs
-
-slice-aggregate-split-within-5 : tie.Need-slice-aggregate-split-within-5
-slice-aggregate-split-within-5 c = search needs
-
-slice-aggregate-split-within-6 : tie.Need-slice-aggregate-split-within-6
-slice-aggregate-split-within-6 c = search needs
-
-split-within-requires-2 : tie.Need-split-within-requires-2
-split-within-requires-2 c κs =
-    let A = accepted _ _ _ _ _ _ _ _ _ (c .before .before .before .before .before .before .before .before .before .before .before .before .before .before .before .before .before .before .before .pre) in
-    (c .before .before .before .before .before .before .before .before .before .before .before .before .before .before .before .before .before .before .before .pre, (omega (arith, A .edges .below), omega (arith, A .wires .few), omega arith))
+returns c = outcome-done _ _ _ _ _ _ _ _ _ (c .before .before .before .before .before .before .before .before .before .before .before .before .before .before .before .before .before .before .before .before .before .before .before .before .before .before .before .before .before .before .before .before .before .before .before .pre) _ (c .before .before .before .before .before .before .before .before .before .before .before .before .before .before .before .before .before .before .before .before .before .before .before .before .cut-room .ensures) _ _ _ (c .before .before .before .before .before .before .before .before .before .before .before .before .before .before .before .before .before .before .before .before .mend-closed .ensures) _ _ _ _ (c .before .before .before .before .before .before .before .before .before .before .before .before .before .before .before .if1 .taken) (c .before .before .before .before .before .before .before .before .before .before .add-edges .ensures)
 
 same-length-7 : tie.Need-same-length-7
 same-length-7 c = search needs
@@ -82,18 +62,17 @@ same-length-12 : tie.Need-same-length-12
 same-length-12 c = search needs
 
 returns-2 : tie.Need-returns-2
-returns-2 c = search needs
+returns-2 c = outcome-full _ _ _ _ _ _ _ _ _ (c .before .before .before .before .before .before .before .before .before .before .before .before .before .before .before .before .before .before .before .before .pre) _ (c .before .before .before .before .before .before .before .before .before .cut-room .ensures) _ _ _ (c .before .before .before .before .before .mend-closed .ensures) (c .if1 .left)
 
 pub split-checked-spec : {M : Type 1} → statement M
 split-checked-spec =
     tie.close
     (tie.spec
-    total-uses-requires
-    is-small-requires
-    slice-aggregate-split-within
-    slice-aggregate-split-within-2
-    slice-aggregate-split-within-3
-    split-within-requires
+    cut-room-requires
+    mend-closed-requires
+    add-edges-requires
+    add-t36
+    add-t37
     same-length
     same-length-2
     same-length-3
@@ -101,10 +80,6 @@ split-checked-spec =
     same-length-5
     same-length-6
     returns
-    slice-aggregate-split-within-4
-    slice-aggregate-split-within-5
-    slice-aggregate-split-within-6
-    split-within-requires-2
     same-length-7
     same-length-8
     same-length-9

@@ -1,6 +1,6 @@
 -- `healing::cuts::kaugrenna_cut_edge_by_intersections` meets its contract. Assumes nothing.
 use mathlib.Core.Path.{refl}
-use Rattle.split_closed_edges.specs.Contract.{saidOf}
+use Rattle.cutting.specs.Contract.{saidOf}
 use Rattle.healing.proofs.Told.{told-result, told-refused, shell-told}
 use borrow.Author.Needs.{needs}
 use Rattle.healing.proofs.cuts.kaugrenna_cut_edge_by_intersections.Statement.{statement}

@@ -1,9 +1,0 @@
--- The uses that stand in a wire for one use. Definitions only.
-use mathlib.Core.List.{List, [], _∷_}
-use Prim.Native.Nat.{ℕ}
-use Rattle.split_closed_edges.specs.declared.Parts.{Parts}
-use Rattle.split_closed_edges.specs.declared.Parts.the-variants.{One, Two}
-
-unfoldable pub usesOfParts : Parts → List ℕ
-usesOfParts (One a) = a ∷ []
-usesOfParts (Two a b) = a ∷ b ∷ []
