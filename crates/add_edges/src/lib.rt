@@ -38,9 +38,9 @@ fn add_edge(
         let old = h.old;
         let new = h.new;
         let v = cut_edge::pending(e);
-        compress::put_vertex(vertex_numbers, vertex_floats, n, v);
-        compress::put_edge(edge_numbers, edge_floats, i, old);
-        compress::put_edge(edge_numbers, edge_floats, m, new);
+        rows::put_vertex(vertex_numbers, vertex_floats, n, v);
+        rows::put_edge(edge_numbers, edge_floats, i, old);
+        rows::put_edge(edge_numbers, edge_floats, m, new);
         return true;
     }
     false

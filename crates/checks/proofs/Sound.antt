@@ -1,11 +1,11 @@
 -- What the tests of the first pass say: a row that passes them has no cause. Assumes nothing.
-use mathlib.Core.Path.{_≡_, refl}
+use mathlib.Core.Path.{_≡_, refl, _∙_}
 use mathlib.Core.Bool.{Bool, true, false, not, _&&_}
 use mathlib.Core.List.{List}
-use Prim.Native.Nat.{ℕ, _+_, _*_, _/_, _≤_, _<_}
+use Prim.Native.Nat.{ℕ, _+_, _*_, _≤_, _<_}
 use native.Mathlib.Numerals.{add-one}
 use native.Mathlib.Omega.{arith}
-use borrow.Author.Tests.{lt-leb, ne-eqb, eq-eqb, le-ltb}
+use borrow.Author.Tests.{ltb-true, lt-leb, le-ltb}
 use lib.Dec.{T, eqb, leb, ltb}
 use lib.ListN.{getD}
 use lib.Ieee.{Float, nan, inf, fin, binary64, up, down, below, neg, le, lt, fits}
@@ -15,12 +15,12 @@ use Rattle.floats.specs.Exact.{big, sizedOf}
 use Rattle.floats.specs.Value.{Held, Sle, test→sle}
 use Rattle.floats.specs.Rounds.{neg-held, held-between}
 use Rattle.floats.specs.Mono.{le-trans-held}
-use Rattle.floats.specs.Sized.{big-held, Sized, sized-held}
+use Rattle.floats.specs.Sized.{big-held, sized-held}
 use Rattle.compress.specs.declared.Uv.{Uv}
 use Rattle.compress.specs.declared.Curve.{Curve}
 use Rattle.compress.specs.declared.Curve.the-variants.{Span, Seam}
 use Rattle.compress.specs.Records.{pick, firstOf, lastOf}
-use Rattle.compress.specs.Rows.{curveOf, edgeOf, vertexOf, edgeAt, vertexAt}
+use Rattle.compress.specs.Rows.{curveOf, edgeOf, vertexOf}
 use Rattle.checks.specs.Causes.{when, lowerOf, lowestOf, floatCause, rangeCause, parameterCause, uvCause, pointCause, curveCause, edgeCause, vertexCause, edgeRowCause, vertexRowCause, pendingRowCause}
 use Rattle.checks.proofs.Lowest.{lower-first, lower-none}
 
@@ -38,6 +38,14 @@ holds b e = rw e tt
 shown : (b : Bool) → T b → b ≡ true
 shown true t = refl
 shown false t = absurd t
+
+-- a number cut down to 32 bits is not above itself
+pub narrow-le : (n r : ℕ) → r ≡ pick (ltb 4294967295 n) 4294967295 n → r ≤ n
+narrow-le n r q = by (ltb 4294967295 n) refl
+  where
+    by : (b : Bool) → ltb 4294967295 n ≡ b → r ≤ n
+    by true p = let h = ltb-true 4294967295 n p in let s : r ≡ 4294967295 = q ∙ rw p in omega arith
+    by false p = let s : r ≡ n = q ∙ rw p in omega arith
 
 -- ---- causes
 pub lower-zero : (a b : ℕ) → a ≡ 0 → b ≡ 0 → lowerOf a b ≡ 0

@@ -94,7 +94,7 @@ pub fn put_cut(
         y: c.y,
         z: c.z,
     };
-    compress::put_vertex(vertex_numbers, vertex_floats, n, v);
-    compress::put_edge(edge_numbers, edge_floats, i, old);
-    compress::put_edge(edge_numbers, edge_floats, m, new);
+    rows::put_vertex(vertex_numbers, vertex_floats, n, v);
+    rows::put_edge(edge_numbers, edge_floats, i, old);
+    rows::put_edge(edge_numbers, edge_floats, m, new);
 }

@@ -114,10 +114,10 @@ fn mend_through(
     ensures { λ r. ⌜ InPlace (replaceWires (now (added .entry)) (wiresOf (now (uses .entry)) (take wires (now (lengths .entry))))) room (now (uses .entry)) (now (lengths .entry)) (now (uses .exit)) (now (lengths .exit)) r ⌝ }
 {
     let n = replace_wires(uses, lengths, wires, added, out, out_lengths);
-    let fits = room & compress::uses_fit(uses, n);
+    let fits = room & rows::uses_fit(uses, n);
     if fits {
-        compress::copy(out, n, uses);
-        compress::copy(out_lengths, wires, lengths);
+        rows::copy(out, n, uses);
+        rows::copy(out_lengths, wires, lengths);
         return Mend {
             fits: true,
             uses: n,

@@ -176,7 +176,7 @@ fn create_new_edges(
     let mut i: usize = 0;
     while i < n {
         let e = seam_at(divisor, points, surface, i);
-        compress::put_edge(edge_numbers, edge_floats, edges + i, e);
+        rows::put_edge(edge_numbers, edge_floats, edges + i, e);
         i += 1;
     }
 }
@@ -243,7 +243,7 @@ fn room_cause(
     if lengths.len() < count {
         return 6;
     }
-    checks::cause_when(!compress::edges_fit(edge_numbers, edge_floats, edges), 6)
+    checks::cause_when(!rows::edges_fit(edge_numbers, edge_floats, edges), 6)
 }
 
 // Causes 1 and 3 of the face's wires and of those to be rebuilt.
@@ -347,7 +347,7 @@ fn walk_within(
     let m = n + pairs * 2;
     duplicated_edges(face, marks);
     mark_new(marks, edges, pairs);
-    compress::copy(rebuilt, n, &mut uses);
+    rows::copy(rebuilt, n, &mut uses);
     signup_new_edges(&mut uses, n, edges, pairs);
     walk::construct_boundaries(edge_numbers, edges, divisor, marks, &uses[..m], made, sizes)
 }
@@ -439,7 +439,7 @@ fn split_checked(
                 pairs,
             );
             walk::copy_wires(&made, &sizes, wires, uses);
-            compress::copy(&sizes, wires, lengths);
+            rows::copy(&sizes, wires, lengths);
             Boundaries::Split {
                 wires,
                 uses: count,

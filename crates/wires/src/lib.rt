@@ -11,6 +11,6 @@ pub fn rotate_left(wire: &[u32], by: usize, out: &mut [u32])
     ensures { λ _. ⌜ now (out .exit) ≡ turned by (now (wire .entry)) ++ drop (length (now (wire .entry))) (now (out .entry)) ⌝ }
 {
     let rest = wire.len() - by;
-    compress::copy(&wire[by..], rest, out);
-    compress::copy(wire, by, &mut out[rest..]);
+    rows::copy(&wire[by..], rest, out);
+    rows::copy(wire, by, &mut out[rest..]);
 }

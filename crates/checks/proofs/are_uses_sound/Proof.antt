@@ -8,7 +8,7 @@ use lib.Dec.{ltb}
 use lib.ListN.{getD}
 use Rattle.checks.specs.Causes.{lowestOf, edgeNumberCause, usesCause}
 use Rattle.checks.proofs.Lowest.{lowest-start}
-use Rattle.checks.proofs.Sound.{both, lowest-sound}
+use Rattle.checks.proofs.Sound.{both, narrow-le, lowest-sound}
 use Rattle.checks.proofs.are_uses_sound.Statement.{statement}
 use Rattle.checks.proofs.are_uses_sound.Tie as tie
 
@@ -44,7 +44,7 @@ loop-again c =
       omega arith,
       λ e.
           let p = both (l .sound) (ltb u (c .before .before .before .narrow .result)) e in
-          let h : u < a .edges = omega (arith, ltb-true u (c .before .before .before .narrow .result) (p .1), c .before .before .before .narrow .ensures) in
+          let h : u < a .edges = omega (arith, ltb-true u (c .before .before .before .narrow .result) (p .1), narrow-le (a .edges) (c .before .before .before .narrow .result) (c .before .before .before .narrow .ensures)) in
           lowest-sound (λ k. edgeNumberCause (a .edges) (getD (a .uses .now) k 0 / 2)) (l .i) (l .inv .1 (p .0)) (rw (lt-leb (a .edges) u h)),
     )
 

@@ -1,0 +1,23 @@
+-- `rows::edges_fit` meets its contract. Assumes nothing.
+use borrow.Author.Tests.{lt-leb, le-leb}
+use borrow.Author.Needs.{needs}
+use Rattle.compress.specs.Shell.{edgesFit}
+use Rattle.rows.proofs.edges_fit.Statement.{statement}
+use Rattle.rows.proofs.edges_fit.Tie as tie
+
+returns : tie.Need-returns
+unfolding edgesFit
+returns c = simp (lt-leb _ _ (c .if1 .taken))
+
+mul-a : tie.Need-mul-a
+mul-a c = search needs
+
+mul-b : tie.Need-mul-b
+mul-b c = search needs
+
+returns-2 : tie.Need-returns-2
+unfolding edgesFit
+returns-2 c = simp (le-leb _ _ (c .if1 .left))
+
+pub edges-fit-spec : {M : Type 1} → statement M
+edges-fit-spec = tie.close (tie.spec returns mul-a mul-b returns-2)

@@ -1,0 +1,128 @@
+-- `rows::put_curve` meets its contract. Assumes nothing.
+use native.Mathlib.Omega.{arith}
+use lib.ListN.{length-set}
+use borrow.Author.Needs.{needs}
+use Rattle.compress.proofs.Cells.{run2, run6}
+use Rattle.rows.proofs.put_curve.Statement.{statement}
+use Rattle.rows.proofs.put_curve.Tie as tie
+
+enum-known-c : tie.Need-enum-known-c
+enum-known-c c = search needs
+
+add-floats : tie.Need-add-floats
+add-floats c = search needs
+
+mul-floats : tie.Need-mul-floats
+mul-floats c = search needs
+
+slice-write-floats : tie.Need-slice-write-floats
+slice-write-floats c = search needs
+
+add-floats-2 : tie.Need-add-floats-2
+add-floats-2 c = search needs
+
+mul-floats-2 : tie.Need-mul-floats-2
+mul-floats-2 c = search needs
+
+slice-write-floats-2 : tie.Need-slice-write-floats-2
+slice-write-floats-2 c = simp length-set (omega arith)
+
+enum-known-c-2 : tie.Need-enum-known-c-2
+enum-known-c-2 c = search needs
+
+mul-floats-3 : tie.Need-mul-floats-3
+mul-floats-3 c = search needs
+
+slice-write-floats-3 : tie.Need-slice-write-floats-3
+slice-write-floats-3 c = search needs
+
+add-floats-3 : tie.Need-add-floats-3
+add-floats-3 c = search needs
+
+mul-floats-4 : tie.Need-mul-floats-4
+mul-floats-4 c = search needs
+
+slice-write-floats-4 : tie.Need-slice-write-floats-4
+slice-write-floats-4 c = simp length-set (omega arith)
+
+add-floats-4 : tie.Need-add-floats-4
+add-floats-4 c = search needs
+
+mul-floats-5 : tie.Need-mul-floats-5
+mul-floats-5 c = search needs
+
+slice-write-floats-5 : tie.Need-slice-write-floats-5
+slice-write-floats-5 c = simp length-set (omega arith)
+
+add-floats-5 : tie.Need-add-floats-5
+add-floats-5 c = search needs
+
+mul-floats-6 : tie.Need-mul-floats-6
+mul-floats-6 c = search needs
+
+slice-write-floats-6 : tie.Need-slice-write-floats-6
+slice-write-floats-6 c = simp length-set (omega arith)
+
+add-floats-6 : tie.Need-add-floats-6
+add-floats-6 c = search needs
+
+mul-floats-7 : tie.Need-mul-floats-7
+mul-floats-7 c = search needs
+
+slice-write-floats-7 : tie.Need-slice-write-floats-7
+slice-write-floats-7 c = simp length-set (omega arith)
+
+add-floats-7 : tie.Need-add-floats-7
+add-floats-7 c = search needs
+
+mul-floats-8 : tie.Need-mul-floats-8
+mul-floats-8 c = search needs
+
+slice-write-floats-8 : tie.Need-slice-write-floats-8
+slice-write-floats-8 c = simp length-set (omega arith)
+
+same-length : tie.Need-same-length
+same-length c = search needs
+
+returns : tie.Need-returns
+returns c = rw (c .before .c .given .1, run2)
+
+same-length-2 : tie.Need-same-length-2
+same-length-2 c = search needs
+
+returns-2 : tie.Need-returns-2
+returns-2 c = rw (c .before .c2 .given .1, run6)
+
+pub put-curve-spec : {M : Type 1} → statement M
+put-curve-spec =
+    tie.close
+    (tie.spec
+    enum-known-c
+    add-floats
+    mul-floats
+    slice-write-floats
+    add-floats-2
+    mul-floats-2
+    slice-write-floats-2
+    enum-known-c-2
+    mul-floats-3
+    slice-write-floats-3
+    add-floats-3
+    mul-floats-4
+    slice-write-floats-4
+    add-floats-4
+    mul-floats-5
+    slice-write-floats-5
+    add-floats-5
+    mul-floats-6
+    slice-write-floats-6
+    add-floats-6
+    mul-floats-7
+    slice-write-floats-7
+    add-floats-7
+    mul-floats-8
+    slice-write-floats-8
+    same-length
+    returns
+    same-length-2
+    returns-2)
