@@ -15,15 +15,15 @@ use Rattle.compress.specs.Shell.{Shell}
 use Rattle.checks.specs.Causes.{lowerOf, floatCause, periodCause, uvCause}
 use Rattle.split_closed_edges.specs.Cut.{middleOf, halvesOf, pendingOf}
 use Rattle.split_closed_edges.specs.Pass.{keptEdges, newEdges, newVertices, addedTo, replaceUse, replaceEdges, replaceWires, splitClosedEdges}
-use Rattle.nearest.specs.declared.Period.{Period}
-use Rattle.nearest.specs.declared.Period.the-variants.{Absent, Every}
-use Rattle.nearest.specs.Choice.{smaller}
-use Rattle.nearest.specs.Unwrap.{awayFrom, nearestOf, unwrapped, periodCauseOf, unwrapCause, getMindiff}
+use Rattle.periodic.specs.declared.Period.{Period}
+use Rattle.periodic.specs.declared.Period.the-variants.{Absent, Every}
+use Rattle.compress.specs.Choice.{smaller}
+use Rattle.periodic.specs.Unwrap.{awayFrom, nearestOf, unwrapped, periodCauseOf, unwrapCause, getMindiff}
 use Rattle.nearest.specs.Ends.{Divisor, pointOf, pointGap, gapFrom, frontsOf, nearestFront, nearestEnds}
 use Rattle.wires.specs.Turn.{turned}
 use Rattle.non_simple.specs.Loop.{nothing, insert, searched, firstRepeat}
 use Rattle.non_simple.specs.Divisor.{secondPair, dividedBy, turnedDivisor, wireDivisor, findDivisor}
-use Rattle.nearest.specs.Copies.{nearestCopyOf, copyCause, nearestCopySaid}
+use Rattle.periodic.specs.Copies.{nearestCopyOf, copyCause, nearestCopySaid}
 use Rattle.walk.specs.Walk.{Answer}
 use Rattle.walk.specs.Table.{steps, opened, tableWalk}
 use Rattle.split.specs.Seams.{seamOf, seamsOf, newUses, occurs, markedBy}

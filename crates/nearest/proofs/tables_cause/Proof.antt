@@ -1,6 +1,6 @@
+-- `nearest::tables_cause` meets its contract. Assumes nothing.
 use Rattle.checks.proofs.Lowest.{lower-first, lower-last}
 use Rattle.nearest.specs.Ends.{tablesCause}
--- `nearest::tables_cause` meets its contract. Assumes nothing.
 use borrow.Author.Needs.{needs}
 use Rattle.nearest.proofs.tables_cause.Statement.{statement}
 use Rattle.nearest.proofs.tables_cause.Tie as tie
@@ -29,7 +29,14 @@ lower-requires-2 c κs = search needs
 
 returns-2 : tie.Need-returns-2
 unfolding tablesCause
-returns-2 c = cc
+returns-2 c =
+    rw (
+      c .lower2 .ensures,
+      c .before .lower .ensures,
+      c .before .before .pending .ensures,
+      c .before .before .before .vertices .ensures,
+      c .before .before .before .before .before .before .edges .ensures,
+    )
 
 pub tables-cause-spec : {M : Type 1} → statement M
 tables-cause-spec =
