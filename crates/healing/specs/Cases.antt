@@ -21,8 +21,9 @@ use Rattle.compress.specs.Choice.{smaller}
 use Rattle.periodic.specs.Unwrap.{awayFrom, nearestOf, unwrapped, periodCauseOf, unwrapCause, getMindiff}
 use Rattle.nearest.specs.Ends.{Divisor, pointOf, pointGap, gapFrom, frontsOf, nearestFront, nearestEnds}
 use Rattle.wires.specs.Turn.{turned}
-use Rattle.non_simple.specs.Loop.{nothing, insert, searched, firstRepeat}
-use Rattle.non_simple.specs.Divisor.{secondPair, dividedBy, turnedDivisor, wireDivisor, findDivisor}
+use Rattle.loops.specs.Loop.{nothing, insert, searched, firstRepeat}
+use Rattle.divisor.specs.Divided.{secondPair, dividedBy, turnedDivisor}
+use Rattle.non_simple.specs.Divisor.{wireDivisor, findDivisor}
 use Rattle.periodic.specs.Copies.{nearestCopyOf, copyCause, nearestCopySaid}
 use Rattle.walk.specs.Walk.{Answer}
 use Rattle.walk.specs.Table.{steps, opened, tableWalk}

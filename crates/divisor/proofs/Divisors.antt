@@ -12,10 +12,10 @@ use Rattle.compress.specs.Said.{Said, refused}
 use Rattle.compress.proofs.Wires.{part-at, part-size}
 use Rattle.compress.specs.Records.{frontAt}
 use Rattle.nearest.specs.Ends.{Divisor, nearestEnds}
-use Rattle.non_simple.specs.declared.Second.{Second}
-use Rattle.non_simple.specs.Loop.{Repeat, none, pair, firstRepeat}
-use Rattle.non_simple.specs.Divisor.{halfUp, secondPair, stretch, dividedBy, turnedDivisor}
-use Rattle.non_simple.proofs.Repeats.{pair-found}
+use Rattle.divisor.specs.declared.Second.{Second}
+use Rattle.loops.specs.Loop.{Repeat, none, pair, firstRepeat}
+use Rattle.divisor.specs.Divided.{halfUp, secondPair, stretch, dividedBy, turnedDivisor}
+use Rattle.loops.proofs.Repeats.{pair-found}
 
 -- the second pair is in order and inside
 pub record SecondIn (w : List ℕ) (j0 : ℕ) (s : Second) : Type 0 where

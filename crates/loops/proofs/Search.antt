@@ -10,9 +10,9 @@ use lib.ListN.{length, getD, set, drop, length-set, drop-of-length-le}
 use lib.Seq.{drop-cons, getD-set-same, getD-set-other}
 use borrow.Author.Tests.{eq-eqb, ne-eqb}
 use Rattle.compress.specs.Records.{edgeOfUse}
-use Rattle.non_simple.specs.Loop.{Repeat, Place, nothing, insert, meet, searched, firstRepeat}
-use Rattle.non_simple.specs.Loop.Repeat.{none, pair}
-use Rattle.non_simple.specs.Loop.Place.{nowhere, at}
+use Rattle.loops.specs.Loop.{Repeat, Place, nothing, insert, meet, searched, firstRepeat, forgotten, remembered, tableAfter}
+use Rattle.loops.specs.Loop.Repeat.{none, pair}
+use Rattle.loops.specs.Loop.Place.{nowhere, at}
 
 -- the edge number at place k
 abbrev pub numberAt : List ℕ → ℕ → ℕ
@@ -34,13 +34,19 @@ pub record Forgetting (wire : List ℕ) (from : ℕ) (places₀ places : List �
   pub i-le : i ≤ length wire
   pub same : length places ≡ length places₀
   pub zeros : (k : ℕ) → from ≤ k → k < i → getD places (numberAt wire k) 0 ≡ 0
+  pub table : forgotten (drop i wire) places ≡ forgotten (drop from wire) places₀
+
+-- the uses from place i on, one of them apart
+uses-from : (wire : List ℕ) (i : ℕ) → i < length wire → drop i wire ≡ getD wire i 0 ∷ drop (i + 1) wire
+uses-from wire i lt = rw (add-one i) (drop-cons wire i 0 lt)
 
 module _ (wire : List ℕ) (from : ℕ) (places₀ : List ℕ) (edges : (k : ℕ) → k < length wire → numberAt wire k < length places₀) where
   pub forgetting-start : from ≤ length wire → Forgetting wire from places₀ places₀ from
-  forgetting-start h = record { from-le = omega arith; i-le = h; same = refl; zeros = λ k a b. absurd (omega arith) }
+  forgetting-start h = record { from-le = omega arith; i-le = h; same = refl; zeros = λ k a b. absurd (omega arith); table = refl }
 
   pub forgetting-turn : (places : List ℕ) (i : ℕ) → Forgetting wire from places₀ places i → i < length wire
       → Forgetting wire from places₀ (set places (numberAt wire i) 0) (i + 1)
+  unfolding forgotten
   forgetting-turn places i F lt =
       record {
         from-le = omega (arith, F .from-le);
@@ -49,6 +55,7 @@ module _ (wire : List ℕ) (from : ℕ) (places₀ : List ℕ) (edges : (k : ℕ
         zeros = λ k a b.
             set-cases places (numberAt wire i) 0 (numberAt wire k) 0 (omega (arith, edges i lt, F .same)) (λ q. refl)
             (λ n. F .zeros k a (below k b n));
+        table = rw (uses-from wire i lt) at (F .table);
       }
     where
       below : (k : ℕ) → k < i + 1 → (numberAt wire k ≡ numberAt wire i → ⊥) → k < i
@@ -59,8 +66,9 @@ module _ (wire : List ℕ) (from : ℕ) (places₀ : List ℕ) (edges : (k : ℕ
           by-case (no m) = omega (arith, m)
 
   pub forgetting-done : (places : List ℕ) (i : ℕ) → Forgetting wire from places₀ places i → length wire ≤ i
-      → (k : ℕ) → from ≤ k → k < length wire → getD places (numberAt wire k) 0 ≡ 0
-  forgetting-done places i F h k a b = F .zeros k a (omega arith)
+      → ((k : ℕ) → from ≤ k → k < length wire → getD places (numberAt wire k) 0 ≡ 0) × (places ≡ forgotten (drop from wire) places₀)
+  unfolding forgotten
+  forgetting-done places i F h = ((λ k a b. F .zeros k a (omega arith)), rw (drop-of-length-le wire h) at (F .table))
 
 -- ---- `find_loop`
 
@@ -74,8 +82,7 @@ pub searched-first : (map : ℕ → Place) (i : ℕ) (wire : List ℕ) → i < l
     → searched map i (drop i wire) ≡ meet (map (numberAt wire i)) i (searched (insert map (numberAt wire i) i) (i + 1) (drop (i + 1) wire))
 unfolding searched
 searched-first map i wire lt =
-    let d : drop i wire ≡ getD wire i 0 ∷ drop (i + 1) wire = rw (add-one i) (drop-cons wire i 0 lt) in
-    rw d
+    rw (uses-from wire i lt)
 
 pub searched-none : (map : ℕ → Place) (i : ℕ) (wire : List ℕ) → length wire ≤ i → searched map i (drop i wire) ≡ none
 unfolding searched
@@ -90,6 +97,7 @@ pub record Searching (wire : List ℕ) (from : ℕ) (places₀ places : List ℕ
   pub map : ℕ → Place
   pub holds : (k : ℕ) → from ≤ k → k < length wire → getD places (numberAt wire k) 0 ≡ entryOf (map (numberAt wire k))
   pub is : searched map i (drop i wire) ≡ firstRepeat from wire
+  pub table : remembered i (drop i wire) places ≡ remembered from (drop from wire) places₀
 
 -- what the search does at place i, by the entry of its edge
 meet-nowhere : (p : Place) (i : ℕ) (later : Repeat) → entryOf p ≡ 0 → meet p i later ≡ later
@@ -117,7 +125,7 @@ module _ (wire : List ℕ) (from : ℕ) (places₀ : List ℕ) where
       → ((k : ℕ) → from ≤ k → k < length wire → getD places₀ (numberAt wire k) 0 ≡ 0) → Searching wire from places₀ places₀ from
   unfolding nothing entryOf firstRepeat
   searching-start h below zeros =
-      record { from-le = omega arith; i-le = h; same = refl; edges = below; map = nothing; holds = zeros; is = refl }
+      record { from-le = omega arith; i-le = h; same = refl; edges = below; map = nothing; holds = zeros; is = refl; table = refl }
 
   -- place i is met, and the entry of its edge is x
   module _ (places : List ℕ) (i : ℕ) (S : Searching wire from places₀ places i) (lt : i < length wire) (x : ℕ) (q : x ≡ getD places (numberAt wire i) 0) where
@@ -131,9 +139,13 @@ module _ (wire : List ℕ) (from : ℕ) (places₀ : List ℕ) where
     pub searching-found : (x ≡ 0 → ⊥) → pair (x - 1) i ≡ firstRepeat from wire
     searching-found n = sym (meet-at (S .map (numberAt wire i)) i x _ entry n) ∙ met
 
+    pub table-found : (places′ : List ℕ) → places′ ≡ set places (numberAt wire i) (i + 1) → (x ≡ 0 → ⊥) → places′ ≡ remembered from (drop from wire) places₀
+    unfolding remembered
+    table-found places′ e n = e ∙ rw (uses-from wire i lt, ← q, ne-eqb x 0 n) at (S .table)
+
     -- it did not
     pub searching-turn : (places′ : List ℕ) → places′ ≡ set places (numberAt wire i) (i + 1) → x ≡ 0 → Searching wire from places₀ places′ (i + 1)
-    unfolding entryOf
+    unfolding entryOf remembered
     searching-turn places′ e z =
         let l : length places′ ≡ length places = rw e (length-set places (numberAt wire i) (i + 1)) in
         record {
@@ -148,7 +160,18 @@ module _ (wire : List ℕ) (from : ℕ) (places₀ : List ℕ) where
               (λ here. sym (ap entryOf (insert-same (S .map) (numberAt wire i) i (numberAt wire k) here)))
               (λ n. S .holds k a b ∙ sym (ap entryOf (insert-other (S .map) (numberAt wire i) i (numberAt wire k) n))));
           is = sym (meet-nowhere (S .map (numberAt wire i)) i _ (entry ∙ z)) ∙ met;
+          table = rw e (rw (uses-from wire i lt, ← q, eq-eqb x 0 z) at (S .table));
         }
 
   pub searching-done : (places : List ℕ) (i : ℕ) → Searching wire from places₀ places i → length wire ≤ i → none ≡ firstRepeat from wire
   searching-done places i S h = sym (searched-none (S .map) i wire h) ∙ S .is
+
+  pub table-done : (places : List ℕ) (i : ℕ) → Searching wire from places₀ places i → length wire ≤ i → places ≡ remembered from (drop from wire) places₀
+  unfolding remembered
+  table-done places i S h = rw (drop-of-length-le wire h) at (S .table)
+
+-- the table as it was lent, to that which the search leaves
+pub table-after : (wire : List ℕ) (from : ℕ) (lent start places : List ℕ) → start ≡ forgotten (drop from wire) lent → places ≡ remembered from (drop from wire) start
+    → places ≡ tableAfter from wire lent
+unfolding tableAfter
+table-after wire from lent start places f r = rw (← f) r

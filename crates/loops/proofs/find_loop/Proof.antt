@@ -1,11 +1,20 @@
--- `non_simple::find_loop` meets its contract. Assumes nothing.
+-- `loops::find_loop` meets its contract. Assumes nothing.
 use Prim.Native.Nat.{_-_}
 use lib.ListN.{length}
 use native.Mathlib.Omega.{arith}
-use Rattle.non_simple.specs.Loop.{repeatOf}
-use Rattle.non_simple.proofs.Search.{Searching, searching-start, searching-turn, searching-found, searching-done}
-use Rattle.non_simple.proofs.find_loop.Statement.{statement}
-use Rattle.non_simple.proofs.find_loop.Tie as tie
+use Rattle.loops.specs.Loop.{repeatOf}
+use Rattle.loops.proofs.Search.{
+  Searching,
+  searching-start,
+  searching-turn,
+  searching-found,
+  table-found,
+  searching-done,
+  table-done,
+  table-after,
+}
+use Rattle.loops.proofs.find_loop.Statement.{statement}
+use Rattle.loops.proofs.find_loop.Tie as tie
 
 abbrev Inv-loop : tie.InvT-loop
 Inv-loop wire from places₀ i₀ places i = Searching wire from places₀ places i
@@ -19,7 +28,7 @@ forget-requires c κs = (c .before .before .before .pre .0 .0, c .before .before
 loop-holds : tie.Need-loop-holds Inv-loop μ-loop
 loop-holds c =
     let s = c .before .before .before .before .before .before in
-    searching-start _ _ _ (s .pre .0 .0) (λ k h. omega (arith, s .pre .1 k h, c .before .before .forget .kept .1 .1 .0)) (c .before .before .forget .ensures)
+    searching-start _ _ _ (s .pre .0 .0) (λ k h. omega (arith, s .pre .1 k h, c .before .before .forget .kept .1 .1 .0)) (c .before .before .forget .ensures .0)
 
 mul-e : tie.Need-mul-e Inv-loop μ-loop
 mul-e c = omega arith
@@ -51,7 +60,11 @@ returns : tie.Need-returns Inv-loop μ-loop
 unfolding repeatOf
 returns c =
     let v = c .before .before .before .visit in
-    searching-found _ _ _ _ _ (c .before .before .before .before .before .before .before .loop .inv) (c .before .before .before .before .before .before .loop-test .taken) _ (v .ensures .0) (c .if1 .taken)
+    let S = c .before .before .before .before .before .before .before .loop .inv in
+    let lt = c .before .before .before .before .before .before .loop-test .taken in (
+      searching-found _ _ _ _ _ S lt _ (v .ensures .0) (c .if1 .taken),
+      table-after _ _ _ _ _ (c .before .before .before .before .before .before .before .before .before .before .forget .ensures .1) (table-found _ _ _ _ _ S lt _ (v .ensures .0) _ (v .ensures .1) (c .if1 .taken)),
+    )
 
 add-i : tie.Need-add-i Inv-loop μ-loop
 add-i c = omega arith
@@ -69,7 +82,11 @@ same-length-2 c = omega arith
 
 returns-2 : tie.Need-returns-2 Inv-loop μ-loop
 unfolding repeatOf
-returns-2 c = searching-done _ _ _ _ _ (c .before .loop .inv) (c .loop-test .left)
+returns-2 c =
+    let S = c .before .loop .inv in (
+      searching-done _ _ _ _ _ S (c .loop-test .left),
+      table-after _ _ _ _ _ (c .before .before .before .before .forget .ensures .1) (table-done _ _ _ _ _ S (c .loop-test .left)),
+    )
 
 pub find-loop-spec : {M : Type 1} → statement M
 find-loop-spec =

@@ -2,10 +2,10 @@
 use mathlib.Core.List.{List, [], _∷_}
 use Prim.Native.Nat.{ℕ, _+_}
 use lib.Dec.{eqb}
-use lib.ListN.{drop}
+use lib.ListN.{getD, set, drop}
 use Rattle.compress.specs.Records.{pick, edgeOfUse}
-use Rattle.non_simple.specs.declared.Loop.{Loop}
-use Rattle.non_simple.specs.declared.Loop.the-variants.{Pair, Nothing}
+use Rattle.loops.specs.declared.Loop.{Loop}
+use Rattle.loops.specs.declared.Loop.the-variants.{Pair, Nothing}
 
 -- the earlier and the later place of an edge number that stands twice, or that none does
 pub data Repeat : Type 0 where
@@ -43,3 +43,22 @@ firstRepeat from wire = searched nothing from (drop from wire)
 unfoldable pub repeatOf : Loop → Repeat
 repeatOf (Pair j i) = pair j i
 repeatOf Nothing = none
+
+-- ---- the table that is lent: entry e is for the latest place of edge e, plus 1, and 0 where it stood nowhere
+
+-- "with nothing remembered": the entries of the edges of these uses are 0
+unfoldable pub forgotten : List ℕ → List ℕ → List ℕ
+forgotten [] table = table
+forgotten (u ∷ us) table = forgotten us (set table (edgeOfUse u) 0)
+
+-- the table once the uses from place i on were searched, up to the first whose edge number stood before
+unfoldable pub remembered : ℕ → List ℕ → List ℕ → List ℕ
+remembered i [] table = table
+remembered i (u ∷ us) table =
+    pick (eqb (getD table (edgeOfUse u) 0) 0)
+    (remembered (i + 1) us (set table (edgeOfUse u) (i + 1)))
+    (set table (edgeOfUse u) (i + 1))
+
+-- what the search leaves of it
+unfoldable pub tableAfter : ℕ → List ℕ → List ℕ → List ℕ
+tableAfter from wire table = remembered from (drop from wire) (forgotten (drop from wire) table)

@@ -1,10 +1,10 @@
--- `non_simple::forget` meets its contract. Assumes nothing.
+-- `loops::forget` meets its contract. Assumes nothing.
 use Prim.Native.Nat.{_-_}
 use lib.ListN.{length}
 use native.Mathlib.Omega.{arith}
-use Rattle.non_simple.proofs.Search.{Forgetting, forgetting-start, forgetting-turn, forgetting-done}
-use Rattle.non_simple.proofs.forget.Statement.{statement}
-use Rattle.non_simple.proofs.forget.Tie as tie
+use Rattle.loops.proofs.Search.{Forgetting, forgetting-start, forgetting-turn, forgetting-done}
+use Rattle.loops.proofs.forget.Statement.{statement}
+use Rattle.loops.proofs.forget.Tie as tie
 
 abbrev Inv-loop : tie.InvT-loop
 Inv-loop wire from places₀ k₀ places k = Forgetting wire from places₀ places k

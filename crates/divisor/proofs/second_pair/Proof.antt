@@ -1,9 +1,9 @@
--- `non_simple::second_pair` meets its contract. Assumes nothing.
+-- `divisor::second_pair` meets its contract. Assumes nothing.
 use borrow.Author.Needs.{needs}
-use Rattle.non_simple.specs.Loop.{repeatOf}
-use Rattle.non_simple.specs.Divisor.{secondPair}
-use Rattle.non_simple.proofs.second_pair.Statement.{statement}
-use Rattle.non_simple.proofs.second_pair.Tie as tie
+use Rattle.loops.specs.Loop.{repeatOf}
+use Rattle.divisor.specs.Divided.{secondPair}
+use Rattle.divisor.proofs.second_pair.Statement.{statement}
+use Rattle.divisor.proofs.second_pair.Tie as tie
 
 enum-known-found : tie.Need-enum-known-found
 enum-known-found c = search needs

@@ -6,10 +6,10 @@ use Prim.Native.Nat.{ℕ, zero, suc, _+_, _-_, _≤_, _<_}
 use native.Mathlib.Omega.{arith}
 use native.Mathlib.Decide.{ℕ-discrete}
 use lib.ListN.{length, drop}
-use Rattle.non_simple.specs.Loop.{Repeat, Place, nothing, insert, meet, searched, firstRepeat}
-use Rattle.non_simple.specs.Loop.Repeat.{none, pair}
-use Rattle.non_simple.specs.Loop.Place.{nowhere, at}
-use Rattle.non_simple.proofs.Search.{numberAt, insert-same, insert-other, searched-first, searched-none}
+use Rattle.loops.specs.Loop.{Repeat, Place, nothing, insert, meet, searched, firstRepeat}
+use Rattle.loops.specs.Loop.Repeat.{none, pair}
+use Rattle.loops.specs.Loop.Place.{nowhere, at}
+use Rattle.loops.proofs.Search.{numberAt, insert-same, insert-other, searched-first, searched-none}
 
 -- no two of the places from `from` up to before i share an edge number
 pub record Simple (wire : List ℕ) (from i : ℕ) : Type 0 where
