@@ -6,7 +6,7 @@ ghost use Prim.Native.Nat.{ℕ, _<_};
 ghost use lib.Ieee.{nan, binary64, ofBits, ne};
 ghost use lib.ListN.{length, getD};
 use compress::Uv;
-use join::Join;
+use joined::Join;
 use libc::STDOUT_FILENO;
 use split::Boundaries;
 use wire_kinds::BoundaryType;

@@ -11,7 +11,7 @@ use Rattle.compress.specs.Refusals.{refusalNumber}
 use Rattle.compress.specs.Said.{Said, result, none, refused, onResult}
 use Rattle.compress.specs.Shell.{Slices, Counts}
 use Rattle.split_closed_edges.specs.Contract.{Outcome}
-use Rattle.join.specs.Contract.{JoinOutcome}
+use Rattle.joined.specs.Outcome.{JoinOutcome}
 use Rattle.split.specs.Contract.{SplitCounts, Buffers, SplitOutcome}
 use Rattle.periodic.specs.declared.Period.{Period}
 use Rattle.periodic.specs.declared.Period.the-variants.{Absent, Every}

@@ -1,7 +1,7 @@
 // The steps of the healing, each a call of the port: what it answers is written, and the shell comes back as the step leaves it.
 use crate::shell;
 use compress::Refusal;
-use join::Join;
+use joined::Join;
 use nearest::Ends;
 use periodic::NearestCopy;
 use periodic::Period;
