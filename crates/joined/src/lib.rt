@@ -37,7 +37,8 @@ fn replace_through(
     joined: &[u32],
     behind: &mut [u32],
 )
-    requires { ⌜ (to + rest ≤ length (now uses)) × (from + length (now joined) + rest ≤ length (now uses)) × (rest ≤ length (now behind)) ⌝ }
+    requires { ⌜ (to + rest ≤ length (now uses)) × (from + length (now joined) + rest ≤ length (now uses)) ⌝ }
+    requires { ⌜ rest ≤ length (now behind) ⌝ }
     ensures { λ _. ⌜ now (uses .exit) ≡ replacedIn (now (uses .entry)) from to rest (now (joined .entry)) ⌝ }
 {
     compress::copy(&uses[to..], rest, behind);

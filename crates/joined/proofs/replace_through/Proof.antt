@@ -31,7 +31,7 @@ slice-reshare-prefix-lay : tie.Need-slice-reshare-prefix-lay
 slice-reshare-prefix-lay c = search needs
 
 slice-aggregate-lay : tie.Need-slice-aggregate-lay
-slice-aggregate-lay c = sym (length-take-le _ _ (omega (arith, c .before .before .before .before .before .before .before .before .before .before .before .before .before .before .pre .2, c .before .before .before .before .before .before .before .copy .kept)))
+slice-aggregate-lay c = sym (length-take-le _ _ (omega (arith, c .before .before .before .before .before .before .before .before .before .before .before .before .before .before .pre .1, c .before .before .before .before .before .before .before .copy .kept)))
 
 add-lay : tie.Need-add-lay
 add-lay c = search needs
@@ -39,8 +39,8 @@ add-lay c = search needs
 lay-requires-2 : tie.Need-lay-requires-2
 lay-requires-2 c κs =
     let s = c .before .before .before .before .before .before .before .before .before .before .before .before .before .before .before in
-    let l = length-take-le (s .args .rest) (c .before .before .before .before .before .before .before .before .copy .last .1 .1 .0) (omega (arith, s .pre .2, c .before .before .before .before .before .before .before .before .copy .kept)) in
-    omega (arith, l, s .pre .1, c .before .before .before .before .lay .kept)
+    let l = length-take-le (s .args .rest) (c .before .before .before .before .before .before .before .before .copy .last .1 .1 .0) (omega (arith, s .pre .1, c .before .before .before .before .before .before .before .before .copy .kept)) in
+    omega (arith, l, s .pre .0 .1, c .before .before .before .before .lay .kept)
 
 same-length : tie.Need-same-length
 same-length c = search needs
@@ -52,9 +52,9 @@ returns : tie.Need-returns
 returns c =
     let s = c .before .before .before .before .before .before .before .before .before .before .before .before .before .before .before .before .before .before in
     let a = s .args in
-    let k = kept-aside (a .uses .now) _ _ (a .to) (a .rest) (s .pre .0) (c .before .before .before .before .before .before .before .before .before .before .before .copy .ensures) in
-    let l = length-take-le (a .rest) (c .before .before .before .before .before .before .before .before .before .before .before .copy .last .1 .1 .0) (omega (arith, s .pre .2, c .before .before .before .before .before .before .before .before .before .before .before .copy .kept)) in
-    let h : a .from ≤ length (a .uses .now) = omega (arith, s .pre .1) in
+    let k = kept-aside (a .uses .now) _ _ (a .to) (a .rest) (s .pre .0 .0) (c .before .before .before .before .before .before .before .before .before .before .before .copy .ensures) in
+    let l = length-take-le (a .rest) (c .before .before .before .before .before .before .before .before .before .before .before .copy .last .1 .1 .0) (omega (arith, s .pre .1, c .before .before .before .before .before .before .before .before .before .before .before .copy .kept)) in
+    let h : a .from ≤ length (a .uses .now) = omega (arith, s .pre .0 .1) in
     replaced (a .uses .now) (a .joined .now) _ _ _ (a .from) (a .to) (a .rest) h k l (c .before .before .before .before .before .before .before .lay .ensures) (c .before .before .lay2 .ensures)
 
 pub replace-through-spec : {M : Type 1} → statement M
