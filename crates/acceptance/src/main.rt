@@ -6,11 +6,11 @@ ghost use Prim.Native.Nat.{ℕ, _<_};
 ghost use lib.Ieee.{nan, binary64, ofBits, ne};
 ghost use lib.ListN.{length, getD};
 use compress::Uv;
-use join::Join;
+use joined::Join;
 use libc::STDOUT_FILENO;
-use nearest::BoundaryType;
-use nearest::WireKind;
 use split::Boundaries;
+use wire_kinds::BoundaryType;
+use wire_kinds::WireKind;
 
 // Both hold the same numbers.
 fn is_same(a: &[u32], b: &[u32]) -> bool
@@ -170,7 +170,7 @@ fn is_k16_same() -> bool {
 fn kind_of(d: f64, area: f64) -> WireKind {
     let first = Uv { u: 0.0, v: 0.0 };
     let last = Uv { u: d, v: 0.0 };
-    nearest::boundary_type(first, last, area)
+    wire_kinds::boundary_type(first, last, area)
 }
 
 // "K17: ends 0.03125 apart are closed (0.0009765625), Positive for area 1."

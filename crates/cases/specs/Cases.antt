@@ -17,15 +17,16 @@ use Rattle.cut_edge.specs.Cut.{middleOf, halvesOf, pendingOf}
 use Rattle.add_edges.specs.Add.{keptEdges, newEdges, newVertices, addedTo}
 use Rattle.mending.specs.Replace.{replaceUse, replaceEdges, replaceWires}
 use Rattle.split_closed_edges.specs.Pass.{splitClosedEdges}
-use Rattle.nearest.specs.declared.Period.{Period}
-use Rattle.nearest.specs.declared.Period.the-variants.{Absent, Every}
-use Rattle.nearest.specs.Choice.{smaller}
-use Rattle.nearest.specs.Unwrap.{awayFrom, nearestOf, unwrapped, periodCauseOf, unwrapCause, getMindiff}
+use Rattle.periodic.specs.declared.Period.{Period}
+use Rattle.periodic.specs.declared.Period.the-variants.{Absent, Every}
+use Rattle.compress.specs.Choice.{smaller}
+use Rattle.periodic.specs.Unwrap.{awayFrom, nearestOf, unwrapped, periodCauseOf, unwrapCause, getMindiff}
 use Rattle.nearest.specs.Ends.{Divisor, pointOf, pointGap, gapFrom, frontsOf, nearestFront, nearestEnds}
 use Rattle.wires.specs.Turn.{turned}
-use Rattle.non_simple.specs.Loop.{nothing, insert, searched, firstRepeat}
-use Rattle.non_simple.specs.Divisor.{secondPair, dividedBy, turnedDivisor, wireDivisor, findDivisor}
-use Rattle.nearest.specs.Copies.{nearestCopyOf, copyCause, nearestCopySaid}
+use Rattle.loops.specs.Loop.{nothing, insert, searched, firstRepeat}
+use Rattle.divisor.specs.Divided.{secondPair, dividedBy, turnedDivisor}
+use Rattle.non_simple.specs.Divisor.{wireDivisor, findDivisor}
+use Rattle.periodic.specs.Copies.{nearestCopyOf, copyCause, nearestCopySaid}
 use Rattle.walk.specs.Walk.{Answer}
 use Rattle.walk.specs.Table.{steps, opened, tableWalk}
 use Rattle.split.specs.Seams.{seamOf, seamsOf, newUses, occurs, markedBy}

@@ -1,3 +1,4 @@
+pub mod Choices
 pub mod Cells
 pub mod Layouts
 pub mod Rows

@@ -1,4 +1,5 @@
 pub mod Records
+pub mod Choice
 pub mod Refusals
 pub mod Said
 pub mod Layout

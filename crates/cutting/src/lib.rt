@@ -33,8 +33,8 @@ pub fn input_cause(
 ) -> u32
     ensures { λ r. ⌜ r ≡ inputCause (lentOf (now («vertex_numbers» .entry)) (now («vertex_floats» .entry)) (now («edge_numbers» .entry)) (now («edge_floats» .entry)) (now (uses .entry)) (now (lengths .entry)) vertices edges wires) ⌝ }
 {
-    let v = checks::vertices(vertex_numbers, vertex_floats, vertices);
-    let e = checks::edges(vertices, edge_numbers, edge_floats, edges);
+    let v = tables::vertices(vertex_numbers, vertex_floats, vertices);
+    let e = tables::edges(vertices, edge_numbers, edge_floats, edges);
     let w = checks::wires(edges, uses, lengths, wires);
     checks::lower(v, checks::lower(e, w))
 }

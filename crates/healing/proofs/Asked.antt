@@ -4,7 +4,7 @@ use mathlib.Core.Path.{_≡_, ap, sym, _∙_}
 use Rattle.compress.specs.declared.Refusal.{Refusal}
 use Rattle.compress.specs.Refusals.{refusalNumber}
 use Rattle.compress.specs.Said.{Said, result, refused, onResult}
-use Rattle.nearest.specs.declared.Period.{Period}
+use Rattle.periodic.specs.declared.Period.{Period}
 use Rattle.healing.specs.declared.periods.Asked.{Asked}
 use Rattle.healing.specs.declared.periods.Asked.the-variants.{Known, Unknown}
 use Rattle.healing.specs.Host.{saidPeriod}

@@ -13,8 +13,8 @@ use Rattle.compress.specs.Refusals.{refusalNumber}
 use Rattle.compress.specs.Said.{Said, result, none, refused}
 use Rattle.compress.specs.Shell.{Counts}
 use Rattle.cutting.specs.Contract.{Outcome}
-use Rattle.join.specs.Contract.{JoinOutcome}
-use Rattle.nearest.specs.Kinds.{SortOutcome}
+use Rattle.joined.specs.Outcome.{JoinOutcome}
+use Rattle.wire_kinds.specs.Kinds.{SortOutcome}
 use Rattle.split.specs.Contract.{SplitCounts, SplitOutcome}
 use Rattle.healing.specs.Host.{codeOf, placesAfter, Told, HostShell, HostJoin, HostBoundaries, HostSort}
 

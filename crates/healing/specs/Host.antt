@@ -11,15 +11,15 @@ use Rattle.compress.specs.Refusals.{refusalNumber}
 use Rattle.compress.specs.Said.{Said, result, none, refused, onResult}
 use Rattle.compress.specs.Shell.{Slices, Counts}
 use Rattle.cutting.specs.Contract.{Outcome}
-use Rattle.join.specs.Contract.{JoinOutcome}
+use Rattle.joined.specs.Outcome.{JoinOutcome}
 use Rattle.split.specs.Contract.{SplitCounts, Buffers, SplitOutcome}
-use Rattle.nearest.specs.declared.Period.{Period}
-use Rattle.nearest.specs.declared.Period.the-variants.{Absent, Every}
-use Rattle.nearest.specs.declared.BoundaryType.{BoundaryType}
-use Rattle.nearest.specs.declared.BoundaryType.the-variants.{Positive, Negative, NotClosed}
-use Rattle.nearest.specs.Unwrap.{getMindiff}
-use Rattle.nearest.specs.Copies.{nearestCopySaid}
-use Rattle.nearest.specs.Kinds.{SortOutcome, boundaryTypeSaid}
+use Rattle.periodic.specs.declared.Period.{Period}
+use Rattle.periodic.specs.declared.Period.the-variants.{Absent, Every}
+use Rattle.wire_kinds.specs.declared.BoundaryType.{BoundaryType}
+use Rattle.wire_kinds.specs.declared.BoundaryType.the-variants.{Positive, Negative, NotClosed}
+use Rattle.periodic.specs.Unwrap.{getMindiff}
+use Rattle.periodic.specs.Copies.{nearestCopySaid}
+use Rattle.wire_kinds.specs.Kinds.{SortOutcome, boundaryTypeSaid}
 use Rattle.healing.specs.declared.periods.Asked.{Asked}
 use Rattle.healing.specs.declared.periods.Asked.the-variants.{Known, Unknown}
 

@@ -2,7 +2,7 @@
 ghost use Rattle.join.specs.Contract.{joinOutcome};
 ghost use Rattle.healing.specs.Host.{HostJoin};
 use crate::answers;
-use join::Join;
+use joined::Join;
 
 // The two open wires and the first new wire that holds v0 become one wire, which replaces that new wire, in place. 0: done, and the place holds
 // how many uses the new wires have now. -1: something is not found. Else the number of the refusal. After -1 and a refusal nothing lent is changed.

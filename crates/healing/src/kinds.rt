@@ -1,12 +1,12 @@
 // The calls for hosts on the kind of a wire: the kind of one, and the sorting of wires into open and closed ones.
 ghost use mathlib.Core.Path.{_≡_};
-ghost use Rattle.nearest.specs.Kinds.{sortWires};
+ghost use Rattle.wire_kinds.specs.Kinds.{sortWires};
 ghost use Rattle.healing.specs.Host.{Told, HostSort, boundaryNumber, hostKind};
 use crate::answers;
 use compress::Uv;
-use nearest::BoundaryType;
-use nearest::Sorted;
-use nearest::WireKind;
+use wire_kinds::BoundaryType;
+use wire_kinds::Sorted;
+use wire_kinds::WireKind;
 
 // The number of a kind of wire.
 fn boundary_number(t: BoundaryType) -> u32
@@ -34,7 +34,7 @@ pub extern "C" fn kaugrenna_boundary_type(
 {
     let a = Uv { u: u0, v: v0 };
     let b = Uv { u: u1, v: v1 };
-    let answer = nearest::boundary_type(a, b, area);
+    let answer = wire_kinds::boundary_type(a, b, area);
     match answer {
         WireKind::Is(t) => {
             *kind_out = boundary_number(t);
@@ -56,7 +56,7 @@ pub extern "C" fn kaugrenna_sort_wires(
 ) -> i32
     ensures { λ r. ⌜ HostSort (sortWires (now (ends .entry)) wires (now («open» .entry)) (now (closed .entry))) (now («closed_out» .entry)) (now («closed_out» .exit)) (now («open» .exit)) (now (closed .exit)) r ⌝ }
 {
-    let answer = nearest::sort_wires(ends, wires, open, closed);
+    let answer = wire_kinds::sort_wires(ends, wires, open, closed);
     match answer {
         Sorted::Two(n) => {
             *closed_out = n;

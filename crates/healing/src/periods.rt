@@ -1,14 +1,14 @@
 // The calls for hosts that take periods: unwrapping and the nearest copy. A period is lent as a kind, 0 absent and 1 given, and a number.
 ghost use mathlib.Core.Path.{_≡_};
-ghost use Rattle.nearest.specs.Unwrap.{saidUnwrapped};
-ghost use Rattle.nearest.specs.Copies.{saidCopy};
+ghost use Rattle.periodic.specs.Unwrap.{saidUnwrapped};
+ghost use Rattle.periodic.specs.Copies.{saidCopy};
 ghost use Rattle.healing.specs.Host.{Told, saidPeriod, periodSaid, hostMindiff, hostCopyAlong, hostCopy};
 use crate::answers;
 use compress::Refusal;
 use compress::Uv;
-use nearest::NearestCopy;
-use nearest::Period;
-use nearest::Unwrapped;
+use periodic::NearestCopy;
+use periodic::Period;
+use periodic::Unwrapped;
 
 // The period that a host lends, where the kind is known.
 pub enum Asked {
@@ -32,7 +32,7 @@ fn unwrap_asked(u: f64, u0: f64, kind: u32, number: f64) -> Unwrapped
     ensures { λ r. ⌜ saidUnwrapped r ≡ hostMindiff u u0 kind number ⌝ }
 {
     match period_of(kind, number) {
-        Asked::Known(p) => nearest::get_mindiff(u, u0, p),
+        Asked::Known(p) => periodic::get_mindiff(u, u0, p),
         Asked::Unknown(r) => Unwrapped::Refused(r),
     }
 }
@@ -64,7 +64,7 @@ fn copy_known(p: Uv, q: Uv, up: Period, v_kind: u32, v_number: f64) -> NearestCo
     ensures { λ r. ⌜ saidCopy r ≡ hostCopyAlong p q «v_kind» «v_number» up ⌝ }
 {
     match period_of(v_kind, v_number) {
-        Asked::Known(vp) => nearest::nearest_copy(p, q, up, vp),
+        Asked::Known(vp) => periodic::nearest_copy(p, q, up, vp),
         Asked::Unknown(r) => NearestCopy::NoCopy(r),
     }
 }

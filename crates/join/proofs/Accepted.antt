@@ -15,7 +15,8 @@ use Rattle.checks.proofs.Accepted.{EdgesAccepted, passed, not-when, edges-accep
 use Rattle.checks.proofs.Lowest.{lower-none}
 use Rattle.checks.proofs.Small.{when-small, pick-small, lower-small, count-small, vertex-number-small, edges-small, uses-small}
 use Rattle.join.specs.Contract.{joinWiresCause, emptyCause, joinCause}
-use Rattle.join.specs.Steps.{Readable, Joinable}
+use Rattle.laying.specs.Steps.{Readable}
+use Rattle.joined.specs.Steps.{Joinable}
 
 -- uses without a cause
 uses-rows : (v : ℕ) (en : List ℕ) (ef : List Float) (e : ℕ) (us : List ℕ) (n : ℕ) → EdgesAccepted v en ef e → n ≤ length us → usesCause e us n ≡ 0

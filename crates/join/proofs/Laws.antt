@@ -17,8 +17,11 @@ use Rattle.compress.specs.Said.{Said, result, none, refused, onResult, refusedO
 use Rattle.compress.specs.Shell.{usesFit}
 use Rattle.compress.specs.Wires.{wiresOf, usesOf, lengthsOf, over}
 use Rattle.wires.specs.Turn.{turned}
-use Rattle.join.specs.Join.{indexOf, wireIndexOf, foundBefore, closedBy, joinedAt, joinedTo, connectedAt, connected}
-use Rattle.join.specs.Contract.{JoinOutcome, storedIn, joinLeaves, joinCause, joinOutcome}
+use Rattle.laying.specs.Places.{indexOf, wireIndexOf, foundBefore, closedBy}
+use Rattle.joined.specs.Joined.{joinedAt, joinedTo}
+use Rattle.join.specs.Join.{connectedAt, connected}
+use Rattle.joined.specs.Outcome.{JoinOutcome, storedIn, joinLeaves}
+use Rattle.join.specs.Contract.{joinCause, joinOutcome}
 
 -- however far a wire is turned
 size-turned : (i : ℕ) (w : List ℕ) → length (turned i w) ≡ length w

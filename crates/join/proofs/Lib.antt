@@ -1,7 +1,5 @@
--- The laws of the join's steps, of an input without a cause, and of the answer.
-pub mod Places
-pub mod Laying
-pub mod Replacing
-pub mod Joining
+-- The laws of the joining call.
+pub mod Connecting
+pub mod Causes
 pub mod Accepted
 pub mod Laws

@@ -9,7 +9,9 @@ use Rattle.compress.specs.declared.Edge.{Edge}
 use Rattle.compress.specs.Records.{frontOf, frontAt}
 use Rattle.compress.specs.Said.{result, none}
 use Rattle.wires.specs.Turn.{turned}
-use Rattle.join.specs.Join.{indexOf, wireIndexOf, closedBy, joinedAt, joinedTo, connectedAt, connected}
+use Rattle.laying.specs.Places.{indexOf, wireIndexOf, closedBy}
+use Rattle.joined.specs.Joined.{joinedAt, joinedTo}
+use Rattle.join.specs.Join.{connectedAt, connected}
 
 abbrev pub between : ℕ → ℕ → Edge
 between a b = record { front = a; back = b; curve = Span 0 (ofBits binary64 0) (ofBits binary64 0) }

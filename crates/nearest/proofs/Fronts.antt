@@ -15,7 +15,7 @@ use Rattle.compress.specs.Records.{pick, forward, frontOf, frontAt}
 use Rattle.compress.specs.Rows.{edgeAt}
 use Rattle.checks.specs.Causes.{verticesCause, edgesCause}
 use Rattle.checks.proofs.Accepted.{edges-accepted, edge-ends, vertices-accepted}
-use Rattle.nearest.specs.Choice.{smaller}
+use Rattle.compress.specs.Choice.{smaller}
 use Rattle.nearest.specs.declared.Away.{Away}
 use Rattle.compress.specs.Said.{result, none}
 use Rattle.nearest.specs.Ends.{pointOf, awayAt, gapOf, gapFrom, frontsOf, nearestFront, nearestEnds, endsFrom}

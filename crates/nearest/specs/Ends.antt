@@ -17,7 +17,7 @@ use Rattle.nearest.specs.declared.Xyz.{Xyz}
 use Rattle.nearest.specs.declared.Away.{Away}
 use Rattle.nearest.specs.declared.Ends.{Ends}
 use Rattle.nearest.specs.declared.Ends.the-variants.{Between, NoEnds, EndsRefused}
-use Rattle.nearest.specs.Choice.{zero64, smallest}
+use Rattle.compress.specs.Choice.{zero64, smallest}
 
 -- the point of a given vertex; a pending one has none, and is refused (7) before it is read
 unfoldable pub pointOf : Vertex → Xyz

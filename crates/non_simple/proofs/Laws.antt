@@ -16,10 +16,10 @@ use Rattle.compress.specs.Wires.{wiresOf}
 use Rattle.wires.specs.Turn.{turned}
 use Rattle.nearest.specs.Ends.{Divisor, frontsOf, nearestFront, nearestEnds, endsFrom}
 use Rattle.nearest.proofs.Laws.{front-member}
-use Rattle.non_simple.specs.declared.Second.{Second}
-use Rattle.non_simple.specs.Loop.{Repeat, pair, firstRepeat}
-use Rattle.non_simple.specs.Divisor.{halfUp, secondPair, stretch, dividedBy, turnedDivisor, divisorFrom, wireDivisor, orNext, findDivisor, searchCause, findNonSimple}
-use Rattle.non_simple.specs.Loop as loop
+use Rattle.loops.specs.Loop.{Repeat, pair, firstRepeat}
+use Rattle.divisor.specs.Divided.{halfUp, secondPair, stretch, dividedBy, turnedDivisor}
+use Rattle.non_simple.specs.Divisor.{divisorFrom, wireDivisor, orNext, findDivisor, searchCause, findNonSimple}
+use Rattle.loops.specs.Loop as loop
 
 module _ (es : ℕ → Edge) (vs : ℕ → Vertex) where
   -- vertex v is the front of a use of the wire

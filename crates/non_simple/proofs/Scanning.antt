@@ -22,10 +22,11 @@ use Rattle.nearest.proofs.Accepted.{TablesAccepted, tables-accepted, tables-sma
 use Rattle.wires.specs.Turn.{turned}
 use Rattle.wires.proofs.Turns.{length-turned, getD-turned}
 use Rattle.nearest.specs.Ends.{Divisor, tablesCause}
-use Rattle.non_simple.specs.Loop.{pair, firstRepeat}
-use Rattle.non_simple.specs.Divisor.{turnedDivisor, wireDivisor, orNext, isNone, findDivisor, searchCause}
+use Rattle.loops.specs.Loop.{pair, firstRepeat}
+use Rattle.divisor.specs.Divided.{turnedDivisor}
+use Rattle.non_simple.specs.Divisor.{wireDivisor, orNext, isNone, findDivisor, searchCause}
 use Rattle.compress.specs.Said as said
-use Rattle.non_simple.specs.Loop as loop
+use Rattle.loops.specs.Loop as loop
 
 -- ---- a wire that is turned
 module _ (w : List ℕ) (i : ℕ) (h : i ≤ length w) where

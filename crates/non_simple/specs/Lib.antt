@@ -1,4 +1,3 @@
--- The definitions that the contract of `find_loop` cites, with worked examples.
-pub mod Loop
-pub mod Examples
+-- The definitions that the contract of the search cites, with worked examples.
 pub mod Divisor
+pub mod Examples

@@ -3,8 +3,8 @@ use crate::shell;
 use crate::steps;
 use compress::Uv;
 use libc::STDOUT_FILENO;
-use nearest::Period;
-use nearest::Unwrapped;
+use periodic::Period;
+use periodic::Unwrapped;
 use shell::Edges;
 use shell::Wires;
 
@@ -64,7 +64,7 @@ fn line_of_use(numbers: &[u32], floats: &[f64], u: u32) -> Line {
 
 // The line moved round the pipe so that it begins as near to u0 as it can.
 fn unwrapped(l: Line, u0: f64) -> Line {
-    match nearest::get_mindiff(l.from.u, u0, Period::Every(shell::TURN)) {
+    match periodic::get_mindiff(l.from.u, u0, Period::Every(shell::TURN)) {
         Unwrapped::Number(u) => {
             let step = u - l.from.u;
             between(

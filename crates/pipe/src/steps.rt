@@ -2,14 +2,14 @@
 use crate::shell;
 use compress::Refusal;
 use cutting::Split;
-use join::Join;
+use joined::Join;
 use nearest::Ends;
-use nearest::NearestCopy;
-use nearest::Period;
-use nearest::Sorted;
+use periodic::NearestCopy;
+use periodic::Period;
 use shell::Shell;
 use shell::Wires;
 use split::Boundaries;
+use wire_kinds::Sorted;
 
 // Two vertices, if there are any.
 pub struct Divisor {
@@ -129,7 +129,7 @@ pub fn sort(out: i32, s: Shell) -> bool {
     let ends = shell::ends_of_wires();
     let mut opens = [0u32; 2];
     let mut closed = [0u32; 2];
-    match nearest::sort_wires(&ends, s.wires.count, &mut opens, &mut closed) {
+    match wire_kinds::sort_wires(&ends, s.wires.count, &mut opens, &mut closed) {
         Sorted::Two(n) => {
             notation::text(out, b" wires ");
             notation::number(out, opens[0]);
@@ -233,7 +233,7 @@ pub fn nearest_ends(out: i32, s: Shell) -> Divisor {
 fn seam_points(d: Divisor) -> [f64; 4] {
     let p = shell::uv_of(d.v0);
     let q = shell::uv_of(d.v1);
-    match nearest::nearest_copy(p, q, Period::Every(shell::TURN), Period::Absent) {
+    match periodic::nearest_copy(p, q, Period::Every(shell::TURN), Period::Absent) {
         NearestCopy::At(near) => [p.u, p.v, near.u, near.v],
         NearestCopy::NoCopy(_) => [p.u, p.v, q.u, q.v],
     }

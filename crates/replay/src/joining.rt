@@ -1,6 +1,6 @@
 // Replays one stored call of connect_open_boundaries.
 use answers::Answer;
-use join::Join;
+use joined::Join;
 use stored::answers;
 use stored::cells;
 use stored::words;

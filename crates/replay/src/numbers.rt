@@ -1,13 +1,13 @@
 // Replays one stored call of those that are handed no buffer: get_mindiff, nearest_copy and boundary_type.
 ghost use Rattle.stored.specs.Compared.{Remembers};
 use compress::Uv;
-use nearest::BoundaryType;
-use nearest::NearestCopy;
-use nearest::Period;
-use nearest::Unwrapped;
-use nearest::WireKind;
+use periodic::NearestCopy;
+use periodic::Period;
+use periodic::Unwrapped;
 use stored::cells;
 use stored::words;
+use wire_kinds::BoundaryType;
+use wire_kinds::WireKind;
 use words::Place;
 
 // The number of the refusal that a period gets whose kind is neither 0 nor 1. No call can be handed such a period.
@@ -104,7 +104,7 @@ fn copied(r: NearestCopy) -> Moved {
 fn unwrap(u: f64, u0: f64, g: Given) -> Moved {
     let period = g.period;
     if g.is_known {
-        return unwrapped(nearest::get_mindiff(u, u0, period));
+        return unwrapped(periodic::get_mindiff(u, u0, period));
     }
     not_moved(MALFORMED)
 }
@@ -113,7 +113,7 @@ fn copy(p: Uv, q: Uv, gu: Given, gv: Given) -> Moved {
     let up = gu.period;
     let vp = gv.period;
     if gu.is_known & gv.is_known {
-        return copied(nearest::nearest_copy(p, q, up, vp));
+        return copied(periodic::nearest_copy(p, q, up, vp));
     }
     not_moved(MALFORMED)
 }
@@ -178,7 +178,7 @@ pub fn replay_kind(buf: &mut [u8], p: Place) -> Place {
     let a = read_point(buf, p);
     let b = read_point(buf, a.place);
     let area = cells::next_float(buf, b.place);
-    let k = kind_of(nearest::boundary_type(a.uv, b.uv, area.value));
+    let k = kind_of(wire_kinds::boundary_type(a.uv, b.uv, area.value));
     let told = words::compare(buf, area.place, k.number);
     words::compare(buf, told, k.kind)
 }

@@ -1,9 +1,9 @@
 // Replays one stored call of sort_wires.
 use answers::Answer;
-use nearest::Sorted;
 use stored::answers;
 use stored::cells;
 use stored::words;
+use wire_kinds::Sorted;
 use words::MOST;
 use words::Place;
 
@@ -24,7 +24,7 @@ fn replay_filled(
     opens: &mut [u32],
     closed: &mut [u32],
 ) -> Place {
-    let sorted = nearest::sort_wires(ends, wires, opens, closed);
+    let sorted = wire_kinds::sort_wires(ends, wires, opens, closed);
     answers::compare_left(buf, p, answer_of(sorted), opens, closed)
 }
 

@@ -308,7 +308,7 @@ fn split_input_cause(
     ensures { λ r. ⌜ ((us ls : List ℕ) (s : ℕ) → r ≡ splitInputCause (lentSplit (now («edge_numbers» .entry)) (now («edge_floats» .entry)) (now («face_uses» .entry)) (now («face_lengths» .entry)) (now («rebuilt_uses» .entry)) (now («rebuilt_lengths» .entry)) (now (divisor .entry)) (now (points .entry)) us ls vertices edges «face_wires» «rebuilt_wires» count s)) ⌝ }
 {
     let v = checks::count(4096, vertices);
-    let e = checks::edges(vertices, edge_numbers, edge_floats, edges);
+    let e = tables::edges(vertices, edge_numbers, edge_floats, edges);
     let w = split_wires_cause(
         edges,
         face_uses,

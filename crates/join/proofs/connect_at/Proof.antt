@@ -4,8 +4,8 @@ use borrow.Author.Needs.{needs}
 use lib.ListN.{take}
 use Rattle.compress.specs.Rows.{edgeAt}
 use Rattle.compress.specs.Wires.{wiresOf}
-use Rattle.join.specs.Contract.{joinLeaves}
-use Rattle.join.proofs.Joining.{connected-kept, connected-exchanged, exchanged}
+use Rattle.joined.specs.Outcome.{joinLeaves}
+use Rattle.join.proofs.Connecting.{connected-kept, connected-exchanged, exchanged}
 use Rattle.join.proofs.connect_at.Statement.{statement}
 use Rattle.join.proofs.connect_at.Tie as tie
 

@@ -4,8 +4,8 @@ use borrow.Author.Needs.{needs}
 use lib.ListN.{take}
 use Rattle.compress.specs.Rows.{edgeAt}
 use Rattle.compress.specs.Wires.{wiresOf}
-use Rattle.join.specs.Contract.{joinLeaves}
-use Rattle.join.proofs.Joining.{first-holds, second-holds, none-holds}
+use Rattle.joined.specs.Outcome.{joinLeaves}
+use Rattle.join.proofs.Connecting.{first-holds, second-holds, none-holds}
 use Rattle.join.proofs.connect_checked.Statement.{statement}
 use Rattle.join.proofs.connect_checked.Tie as tie
 

@@ -2,7 +2,8 @@
 use mathlib.Core.Path.{ap, sym, _∙_}
 use borrow.Author.Needs.{needs}
 use Rattle.checks.proofs.Small.{refuses, answers}
-use Rattle.join.specs.Contract.{joinLeaves, joinOutcome}
+use Rattle.joined.specs.Outcome.{joinLeaves}
+use Rattle.join.specs.Contract.{joinOutcome}
 use Rattle.join.proofs.Accepted.{join-accepted, join-small}
 use Rattle.join.proofs.connect_open_boundaries.Statement.{statement}
 use Rattle.join.proofs.connect_open_boundaries.Tie as tie

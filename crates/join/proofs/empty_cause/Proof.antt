@@ -15,7 +15,7 @@ lower-requires c κs = search needs
 
 returns : tie.Need-returns
 unfolding emptyCause
-returns c = cc
+returns c = rw (c .lower .ensures, c .before .cause-when2 .ensures, c .before .before .cause-when .ensures)
 
 pub empty-cause-spec : {M : Type 1} → statement M
 empty-cause-spec =

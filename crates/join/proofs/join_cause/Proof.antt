@@ -39,7 +39,9 @@ lower-requires-5 c κs = search needs
 
 returns : tie.Need-returns
 unfolding joinCause
-returns c = cc
+returns c =
+    rw
+    (c .lower5 .ensures, c .before .lower4 .ensures, c .before .before .lower3 .ensures, c .before .before .before .lower2 .ensures, c .before .before .before .before .lower .ensures, c .before .before .before .before .before .empty-cause .ensures, c .before .before .before .before .before .before .join-wires-cause .ensures, c .before .before .before .before .before .before .before .vertex-number2 .ensures, c .before .before .before .before .before .before .before .before .vertex-number .ensures, c .before .before .before .before .before .before .before .before .before .edges .ensures, c .before .before .before .before .before .before .before .before .before .before .count .ensures)
 
 pub join-cause-spec : {M : Type 1} → statement M
 join-cause-spec =

@@ -21,7 +21,14 @@ lower-requires-2 c κs = search needs
 
 returns : tie.Need-returns
 unfolding endsCause
-returns c = cc
+returns c =
+    rw (
+      c .lower2 .ensures,
+      c .before .lower .ensures,
+      c .before .before .vertex-number .ensures,
+      c .before .before .before .stretches-cause .ensures,
+      c .before .before .before .before .tables-cause .ensures,
+    )
 
 pub ends-cause-spec : {M : Type 1} → statement M
 ends-cause-spec =

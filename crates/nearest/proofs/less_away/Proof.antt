@@ -1,7 +1,7 @@
+-- `nearest::less_away` meets its contract. Assumes nothing.
 use mathlib.Core.Path.{refl}
 use Rattle.nearest.specs.Ends.{gapOf}
-use Rattle.nearest.proofs.Choices.{takes-later, takes-earlier}
--- `nearest::less_away` meets its contract. Assumes nothing.
+use Rattle.compress.proofs.Choices.{takes-later, takes-earlier}
 use Rattle.nearest.proofs.less_away.Statement.{statement}
 use Rattle.nearest.proofs.less_away.Tie as tie
 

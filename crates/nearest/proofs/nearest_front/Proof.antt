@@ -1,9 +1,9 @@
+-- `nearest::nearest_front` meets its contract. Assumes nothing.
 use Prim.Native.Nat.{_-_, _<_}
 use native.Mathlib.Omega.{arith}
 use lib.ListN.{length, getD}
 use Rattle.compress.specs.Rows.{edgeAt, vertexAt}
 use Rattle.nearest.proofs.Fronts.{front-below, edge-row, vertex-row, Seeking, seeking-start, seeking-turn, seeking-done}
--- `nearest::nearest_front` meets its contract. Assumes nothing.
 use Rattle.nearest.proofs.nearest_front.Statement.{statement}
 use Rattle.nearest.proofs.nearest_front.Tie as tie
 

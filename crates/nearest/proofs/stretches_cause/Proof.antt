@@ -40,7 +40,8 @@ returns-5 : tie.Need-returns-5
 unfolding stretchesCause
 returns-5 c =
     let h : c .before .before .before .before .before .before .before .before .before .args .n + c .before .before .before .before .before .before .before .before .before .args .m ≤ 1024 = omega arith in
-    simp (le-ltb _ _ (c .before .before .before .before .before .before .if1 .left), le-ltb _ _ (c .before .before .before .before .before .if2 .left), le-ltb _ _ h) (cc)
+    simp (le-ltb _ _ (c .before .before .before .before .before .before .if1 .left), le-ltb _ _ (c .before .before .before .before .before .if2 .left), le-ltb _ _ h)
+    (rw (c .lower .ensures, c .before .use-rows2 .ensures, c .before .before .use-rows .ensures))
 
 pub stretches-cause-spec : {M : Type 1} → statement M
 stretches-cause-spec =

@@ -1,6 +1,7 @@
-use Rattle.checks.proofs.Lowest.{lower-first, lower-last}
-use Rattle.nearest.specs.Ends.{tablesCause}
 -- `nearest::tables_cause` meets its contract. Assumes nothing.
+use Rattle.tables.proofs.Given.{told-none}
+use Rattle.checks.proofs.Lowest.{lower-first, lower-last, lower-none}
+use Rattle.nearest.specs.Ends.{tablesCause}
 use borrow.Author.Needs.{needs}
 use Rattle.nearest.proofs.tables_cause.Statement.{statement}
 use Rattle.nearest.proofs.tables_cause.Tie as tie
@@ -13,7 +14,7 @@ are-points-requires c κs = search needs
 
 returns : tie.Need-returns
 unfolding tablesCause
-returns c = let sound = c .before .are-points .ensures (c .if1 .taken) in rw (sound .0, sound .1, lower-first, lower-last) (c .before .before .edges .ensures)
+returns c = let sound = lower-none _ _ (told-none _ _ (c .before .are-points .ensures) (c .if1 .taken)) in rw (sound .0, sound .1, lower-first, lower-last) (c .before .before .edges .ensures)
 
 vertices-requires : tie.Need-vertices-requires
 vertices-requires c κs = search needs
@@ -29,7 +30,14 @@ lower-requires-2 c κs = search needs
 
 returns-2 : tie.Need-returns-2
 unfolding tablesCause
-returns-2 c = cc
+returns-2 c =
+    rw (
+      c .lower2 .ensures,
+      c .before .lower .ensures,
+      c .before .before .pending .ensures,
+      c .before .before .before .vertices .ensures,
+      c .before .before .before .before .before .before .edges .ensures,
+    )
 
 pub tables-cause-spec : {M : Type 1} → statement M
 tables-cause-spec =

@@ -15,7 +15,7 @@ lower-requires c κs = search needs
 
 returns : tie.Need-returns
 unfolding searchCause
-returns c = cc
+returns c = rw (c .lower .ensures, c .before .wires .ensures, c .before .before .tables-cause .ensures)
 
 pub search-cause-spec : {M : Type 1} → statement M
 search-cause-spec =

@@ -1,6 +1,6 @@
 -- `healing::joins::kaugrenna_connect_open_boundaries` meets its contract. Assumes nothing.
 use mathlib.Core.Path.{refl}
-use Rattle.join.specs.Contract.{saidJoin}
+use Rattle.joined.specs.Outcome.{saidJoin}
 use Rattle.healing.proofs.Told.{told-result, told-none, told-refused, join-told}
 use borrow.Author.Needs.{needs}
 use Rattle.healing.proofs.joins.kaugrenna_connect_open_boundaries.Statement.{statement}

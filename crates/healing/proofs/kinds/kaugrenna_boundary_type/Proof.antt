@@ -2,8 +2,8 @@
 use mathlib.Core.Path.{refl, ap, sym}
 use borrow.Author.Needs.{needs}
 use Rattle.compress.specs.Said.{result}
-use Rattle.nearest.specs.declared.WireKind.{WireKind}
-use Rattle.nearest.specs.Kinds.{saidKind}
+use Rattle.wire_kinds.specs.declared.WireKind.{WireKind}
+use Rattle.wire_kinds.specs.Kinds.{saidKind}
 use Rattle.healing.specs.Host.{numbered}
 use Rattle.healing.proofs.Told.{told-result, told-refused}
 use Rattle.healing.proofs.kinds.kaugrenna_boundary_type.Statement.{statement}

@@ -1,7 +1,7 @@
 -- `healing::kinds::kaugrenna_sort_wires` meets its contract. Assumes nothing.
 use mathlib.Core.Path.{refl}
 use borrow.Author.Needs.{needs}
-use Rattle.nearest.specs.Kinds.{saidSorted}
+use Rattle.wire_kinds.specs.Kinds.{saidSorted}
 use Rattle.healing.proofs.Told.{told-result, told-none, told-refused, sort-told}
 use Rattle.healing.proofs.kinds.kaugrenna_sort_wires.Statement.{statement}
 use Rattle.healing.proofs.kinds.kaugrenna_sort_wires.Tie as tie

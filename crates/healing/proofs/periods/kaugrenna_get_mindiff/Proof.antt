@@ -1,7 +1,7 @@
 -- `healing::periods::kaugrenna_get_mindiff` meets its contract. Assumes nothing.
 use mathlib.Core.Path.{refl}
 use borrow.Author.Needs.{needs}
-use Rattle.nearest.specs.Unwrap.{saidUnwrapped}
+use Rattle.periodic.specs.Unwrap.{saidUnwrapped}
 use Rattle.healing.proofs.Told.{told-result, told-refused}
 use Rattle.healing.proofs.periods.kaugrenna_get_mindiff.Statement.{statement}
 use Rattle.healing.proofs.periods.kaugrenna_get_mindiff.Tie as tie

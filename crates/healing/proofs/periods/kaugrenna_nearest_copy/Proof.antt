@@ -1,7 +1,7 @@
 -- `healing::periods::kaugrenna_nearest_copy` meets its contract. Assumes nothing.
 use mathlib.Core.Path.{refl}
 use borrow.Author.Needs.{needs}
-use Rattle.nearest.specs.Copies.{saidCopy}
+use Rattle.periodic.specs.Copies.{saidCopy}
 use Rattle.healing.proofs.Told.{told-result, told-refused}
 use Rattle.healing.proofs.periods.kaugrenna_nearest_copy.Statement.{statement}
 use Rattle.healing.proofs.periods.kaugrenna_nearest_copy.Tie as tie

@@ -1,0 +1,3 @@
+pub mod Choices
+pub mod Refused
+pub mod Laws

@@ -1,0 +1,2 @@
+pub mod Unwrap
+pub mod Copies
