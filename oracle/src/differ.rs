@@ -12,7 +12,11 @@ use crate::compare::Tally;
 use crate::port::{NearestCopy, Port, Unwrap, WireEnds};
 use crate::random::Random;
 use crate::shell::Lent;
+use std::collections::BTreeMap;
+use std::num::NonZero;
 use std::ops::Range;
+use std::sync::atomic::{AtomicUsize, Ordering};
+use std::{sync::mpsc, thread};
 
 /// A family of inputs.
 #[derive(Clone, Copy, Debug, PartialEq, Eq)]
@@ -107,10 +111,52 @@ fn maker<I: Families>(group: Group) -> Option<fn(&mut Random) -> I> {
     }
 }
 
+/// Every group of every call, in order.
+pub fn every(calls: &[Runner], groups: &[Group]) -> Vec<(Runner, Group)> {
+    let of = |&call| groups.iter().map(move |&group| (call, group));
+    calls.iter().flat_map(of).collect()
+}
+
+/// Runs groups of calls on all cores. `tell` is shown the place of each and
+/// what came of it, in order.
+pub fn run_all(
+    port: &dyn Port,
+    runs: &[(Runner, Group)],
+    plan: Plan,
+    tell: &mut dyn FnMut(usize, Tally),
+) {
+    let next = AtomicUsize::new(0);
+    let (sender, done) = mpsc::channel();
+    let work = |sender: mpsc::Sender<(usize, Tally)>| loop {
+        let place = next.fetch_add(1, Ordering::Relaxed);
+        let Some((call, group)) = runs.get(place) else {
+            return;
+        };
+        let tally = (call.run)(port, *group, plan);
+        if sender.send((place, tally)).is_err() {
+            return;
+        }
+    };
+    thread::scope(|scope| {
+        let work = &work;
+        for sender in vec![sender; thread::available_parallelism().map_or(1, NonZero::get)] {
+            scope.spawn(move || work(sender));
+        }
+        let (mut early, mut told) = (BTreeMap::new(), 0);
+        for (place, tally) in done {
+            early.insert(place, tally);
+            while let Some(tally) = early.remove(&told) {
+                tell(told, tally);
+                told += 1;
+            }
+        }
+    });
+}
+
 /// Runs one group of one call.
-pub fn run<I: Families>(port: &dyn Port, group: Group, plan: Plan) -> Tally {
+fn run<I: Families>(port: &dyn Port, group: Group, plan: Plan) -> Tally {
     if group == Group::Limits {
-        return run_limits::<I>(port);
+        return run_limits::<I>(port, plan);
     }
     let mut tally = Tally::default();
     let mut judge = |input: &I| {
@@ -149,7 +195,7 @@ fn run_part<I: Families>(port: &dyn Port, group: Group, seed: u64, indices: Rang
 }
 
 /// Runs the named cases: their written answers must be the Rust's as well.
-fn run_limits<I: Families>(port: &dyn Port) -> Tally {
+fn run_limits<I: Families>(port: &dyn Port, plan: Plan) -> Tally {
     let mut tally = Tally::default();
     for case in I::limits() {
         if case.input.expected() != case.expected {
@@ -157,6 +203,9 @@ fn run_limits<I: Families>(port: &dyn Port) -> Tally {
             tally.note(&case.input, what);
         }
         tally.judge(port, &case.input, &case.expected);
+        if plan.hasty && tally.differences > 0 {
+            break;
+        }
     }
     tally
 }

@@ -67,7 +67,7 @@ const CALLS: usize = 20_000;
 /// Runs the groups of all calls against the Rust.
 #[cfg(rust_at_hand)]
 fn differ(options: &Options) -> Result<bool, String> {
-    use oracle::differ::Plan;
+    use oracle::differ::{every, run_all, Plan};
     if let Some(until) = options.until {
         return differ_long(options, until);
     }
@@ -77,16 +77,18 @@ fn differ(options: &Options) -> Result<bool, String> {
         calls: CALLS,
         hasty: false,
     };
-    let mut same = true;
-    for call in calls(options)? {
-        let mut whole = Tally::default();
-        for group in groups(options)? {
-            let tally = (call.run)(port.as_ref(), group, plan);
-            same &= report(call.name, group.name(), &tally, options.seed);
-            whole.count(&tally);
+    let groups = groups(options)?;
+    let runs = every(&calls(options)?, &groups);
+    let (mut same, mut whole) = (true, Tally::default());
+    run_all(port.as_ref(), &runs, plan, &mut |place, tally| {
+        let (call, group) = &runs[place];
+        same &= report(call.name, group.name(), &tally, options.seed);
+        whole.count(&tally);
+        if (place + 1) % groups.len() == 0 {
+            let whole = std::mem::take(&mut whole);
+            same &= all_seen(call, &whole) || options.groups.is_some();
         }
-        same &= all_seen(&call, &whole) || options.groups.is_some();
-    }
+    });
     Ok(same)
 }
 

@@ -285,7 +285,7 @@ impl Split<'_> {
 
 /// An implementation that can be held against the Rust. Each call answers 0
 /// where its result is written, -1 for "none", else the refusal's number.
-pub trait Port {
+pub trait Port: Sync {
     /// Whether the call of this name is there at all.
     fn has(&self, _name: &str) -> bool {
         true

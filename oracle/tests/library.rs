@@ -1,8 +1,12 @@
-//! The library itself: a short run over every group of every call.
-#![cfg(rust_at_hand)]
+//! The library itself: a short run over the groups of every call.
 
-use oracle::differ::{Group, Plan, CALLS};
+use crate::runs::do_not_differ;
+use oracle::differ::{Group, Plan};
 use oracle::library::Library;
+
+/// The groups save the small one: it is always the same, and `oracle differ`
+/// goes through it.
+const GROUPS: [Group; 4] = [Group::Limits, Group::Random, Group::Damaged, Group::Noise];
 
 #[test]
 fn the_library_does_not_differ() {
@@ -11,11 +15,5 @@ fn the_library_does_not_differ() {
         calls: 2000,
         hasty: true,
     };
-    for call in CALLS {
-        for group in Group::ALL {
-            let tally = (call.run)(&Library, group, plan);
-            let what = tally.smallest.map(|found| found.what);
-            assert_eq!(what, None, "{} {}", call.name, group.name());
-        }
-    }
+    do_not_differ(&Library, &GROUPS, plan);
 }

@@ -1,9 +1,8 @@
 //! That the comparison can fail: stand-ins that are wrong in one place each
 //! are put where the library stands, and every one of them must be found.
-#![cfg(rust_at_hand)]
 
-mod wrong;
-
+use crate::runs::do_not_differ;
+use crate::wrong::{cut, join, lists, pass, split, Mutant};
 use oracle::calls::split_wires::SplitWires;
 use oracle::calls::Families;
 use oracle::compare::breach;
@@ -11,14 +10,33 @@ use oracle::differ::{Group, Plan, Runner, CALLS};
 use oracle::port::Port;
 use oracle::reference::Reference;
 use oracle::shell::Lent;
-use wrong::{cut, join, lists, pass, split, Mutant};
 
-/// A run that is short enough for each mutant.
-const PLAN: Plan = Plan {
-    seed: 5,
-    calls: 3000,
-    hasty: true,
-};
+/// A run that is short enough, with so many calls in each random group.
+fn plan(calls: usize) -> Plan {
+    Plan {
+        seed: 5,
+        calls,
+        hasty: true,
+    }
+}
+
+/// Calls in each random group where no fewer are enough.
+const MANY: usize = 3000;
+
+/// What is tried on a mutant until it is found: a few random inputs, which are
+/// enough for most, then the named cases, then many random inputs. The small
+/// group is left out, which is long where nothing is found.
+const TRIES: [(Group, usize); 6] = [
+    (Group::Damaged, 20),
+    (Group::Random, 20),
+    (Group::Limits, 0),
+    (Group::Damaged, MANY),
+    (Group::Random, MANY),
+    (Group::Noise, MANY),
+];
+
+/// The small group alone.
+const SMALL: [(Group, usize); 1] = [(Group::Small, 0)];
 
 /// The call of this name.
 fn call(name: &str) -> Runner {
@@ -27,41 +45,33 @@ fn call(name: &str) -> Runner {
 }
 
 /// How many inputs of a group are gone through until a port is found wrong.
-fn found_after(port: &dyn Port, call: Runner, group: Group) -> Option<usize> {
-    let tally = (call.run)(port, group, PLAN);
+fn found_after(port: &dyn Port, call: Runner, group: Group, calls: usize) -> Option<usize> {
+    let tally = (call.run)(port, group, plan(calls));
     (tally.differences > 0).then_some(tally.calls)
 }
 
-/// Every mutant of these lists is found by the groups of a call.
-fn all_found(name: &str, groups: &[Group], lists: Vec<Vec<Mutant>>) {
+/// Every mutant of these lists is found by one of the tries of a call.
+fn all_found(name: &str, tries: &[(Group, usize)], lists: Vec<Vec<Mutant>>) {
     let call = call(name);
     for (what, port) in lists.into_iter().flatten() {
-        let found = |group: &Group| found_after(port.as_ref(), call, *group);
-        let found: Vec<Option<usize>> = groups.iter().map(found).collect();
-        println!("{name}, {what}: {groups:?} {found:?}");
-        let once = found.iter().any(Option::is_some);
-        assert!(once, "{name}: {what} was not found");
+        let found = tries.iter().find_map(|&(group, calls)| {
+            let after = found_after(port.as_ref(), call, group, calls)?;
+            Some((group, after))
+        });
+        println!("{name}, {what}: {found:?}");
+        assert!(found.is_some(), "{name}: {what} was not found");
     }
 }
 
 #[test]
 fn the_reference_does_not_differ() {
-    for call in CALLS {
-        for group in Group::ALL {
-            let tally = (call.run)(&Reference::default(), group, PLAN);
-            let what = tally.smallest.map(|found| found.what);
-            assert_eq!(what, None, "{} {}", call.name, group.name());
-        }
-    }
+    do_not_differ(&Reference::default(), &Group::ALL, plan(MANY));
 }
-
-/// The groups save the small one, which is long where nothing is found.
-const SHORT: [Group; 4] = [Group::Limits, Group::Random, Group::Damaged, Group::Noise];
 
 #[test]
 fn every_wrong_pass_is_found() {
     let name = "split_closed_edges";
-    all_found(name, &SHORT, lists(name));
+    all_found(name, &TRIES, lists(name));
 }
 
 #[test]
@@ -72,7 +82,7 @@ fn the_small_group_finds_every_wrong_result() {
         pass::wrong_middles(),
     ];
     for (name, port) in wrong.into_iter().flatten() {
-        let found = found_after(port.as_ref(), call("split_closed_edges"), Group::Small);
+        let found = found_after(port.as_ref(), call("split_closed_edges"), Group::Small, 0);
         println!("{name}: small {found:?}");
         // This one only shows with three edges.
         let out_of_reach = name == "only the first edges cut";
@@ -83,52 +93,52 @@ fn the_small_group_finds_every_wrong_result() {
 #[test]
 fn every_wrong_call_over_numbers_is_found() {
     for name in ["get_mindiff", "nearest_copy", "boundary_type", "sort_wires"] {
-        all_found(name, &Group::ALL, lists(name));
+        all_found(name, &TRIES, lists(name));
     }
 }
 
 #[test]
 fn every_wrong_nearest_ends_is_found() {
     let name = "nearest_correction";
-    all_found(name, &Group::ALL, lists(name));
+    all_found(name, &TRIES, lists(name));
 }
 
 #[test]
 fn every_wrong_search_is_found() {
     let name = "find_non_simple_wire_divisor";
-    all_found(name, &Group::ALL, lists(name));
+    all_found(name, &TRIES, lists(name));
     let checks = vec![pass::wrong_sight(), pass::wrong_rows()];
-    all_found(name, &Group::ALL, checks);
+    all_found(name, &TRIES, checks);
 }
 
 #[test]
 fn every_wrong_cut_is_found() {
     let name = "cut_edge_by_intersections";
-    all_found(name, &SHORT, lists(name));
+    all_found(name, &TRIES, lists(name));
     let checks = vec![
         pass::wrong_refusals(),
         pass::wrong_sight(),
         pass::wrong_rows(),
     ];
-    all_found(name, &SHORT, checks);
+    all_found(name, &TRIES, checks);
 }
 
 #[test]
 fn every_wrong_join_is_found() {
     let name = "connect_open_boundaries";
-    all_found(name, &SHORT, lists(name));
+    all_found(name, &TRIES, lists(name));
 }
 
 #[test]
 fn every_wrong_split_is_found() {
     let name = "split_boundaries_by_divisor";
-    all_found(name, &SHORT, lists(name));
+    all_found(name, &TRIES, lists(name));
 }
 
 #[test]
 fn the_small_group_finds_every_wrong_split() {
     let name = "split_boundaries_by_divisor";
-    all_found(name, &[Group::Small], split::wrong_results());
+    all_found(name, &SMALL, split::wrong_results());
 }
 
 /// What holds of every split finds these without any word of the Rust.
@@ -153,7 +163,7 @@ fn the_small_group_finds_every_wrong_cut_and_join() {
         cut::wrong_mending(),
         cut::wrong_without_cut(),
     ];
-    all_found("cut_edge_by_intersections", &[Group::Small], cuts);
+    all_found("cut_edge_by_intersections", &SMALL, cuts);
     let joins = vec![
         join::wrong_changes(),
         join::wrong_turns(),
@@ -164,7 +174,7 @@ fn the_small_group_finds_every_wrong_cut_and_join() {
         join::wrong_neighbours(),
         join::wrong_join_ends(),
     ];
-    all_found("connect_open_boundaries", &[Group::Small], joins);
+    all_found("connect_open_boundaries", &SMALL, joins);
 }
 
 #[test]

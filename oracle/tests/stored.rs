@@ -1,9 +1,7 @@
 //! The stored answers: always the same, held by the reference, and able to
 //! find most of the wrong ports.
-#![cfg(rust_at_hand)]
 
-mod wrong;
-
+use crate::wrong::{self, Only};
 use oracle::calls::cut_edge::CutEdge;
 use oracle::calls::find_divisor::FindDivisor;
 use oracle::calls::join_wires::JoinWires;
@@ -15,12 +13,17 @@ use oracle::reference::Reference;
 use oracle::shell::Lent;
 use oracle::stored::{altered, file_of, lists, make, replay, replay_both, QUOTAS};
 use std::sync::OnceLock;
-use wrong::Only;
 
-/// The file, made once.
+/// Both lists, made once.
+fn made() -> &'static [Vec<u64>; 2] {
+    static MADE: OnceLock<[Vec<u64>; 2]> = OnceLock::new();
+    MADE.get_or_init(lists)
+}
+
+/// The file of them.
 fn file() -> &'static [u8] {
     static FILE: OnceLock<Vec<u8>> = OnceLock::new();
-    FILE.get_or_init(make)
+    FILE.get_or_init(|| file_of(made()))
 }
 
 #[test]
@@ -65,8 +68,8 @@ fn altered_records_differ() {
 /// A record in the second list that is not altered is a difference of its call.
 #[test]
 fn a_record_that_is_not_altered_is_seen() {
-    let [stored, _] = lists();
-    let bytes = file_of(&[stored.clone(), stored]);
+    let [stored, _] = made();
+    let bytes = file_of(&[stored.clone(), stored.clone()]);
     let tallies = replay(&Reference::default(), &bytes).unwrap();
     for (name, tally) in tallies {
         assert_eq!((name, tally.differences), (name, tally.calls));

@@ -1,7 +1,7 @@
 //! Altered records: what a call answered and left, but for one bit of one word.
 //! A replay that sees every difference finds none of them the same.
 
-use super::make::{draw, is_small, left_words, put_call};
+use super::make::{draw, left_words, put_call};
 use crate::calls::Families;
 use crate::cells::Kind;
 use crate::compare::{Expected, Input};
@@ -97,10 +97,13 @@ pub fn put_altered<I: Families>(words: &mut Vec<u64>, make: fn(&mut Random, u64)
     for bit in bits::<I>() {
         let mut left = OF_EACH;
         while left > 0 {
-            let (input, expected) = draw(GROUP + I::NUMBER, index, &make);
+            let drawn = draw(GROUP + I::NUMBER, index, MOST_IN_ALL, &make);
             index += 1;
+            let Some((input, expected)) = drawn else {
+                continue;
+            };
             let is_done = left % 2 == 1 || matches!(bit.word, Word::Out(_));
-            if (expected.answer == 0) != is_done || !is_small(&input, MOST_IN_ALL) {
+            if (expected.answer == 0) != is_done {
                 continue;
             }
             if let Some(other) = bit.altered(&expected) {

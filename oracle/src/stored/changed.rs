@@ -2,7 +2,7 @@
 //! bound, past it or so large that it wraps, and causes of a refusal that
 //! chance seldom makes.
 
-use super::make::{draw, is_new, is_small, left_words, put_call, MOST_IN_ALL};
+use super::make::{draw, is_new, left_words, put_call, MOST_IN_ALL};
 use crate::calls::cut_edge::CutEdge;
 use crate::calls::join_wires::JoinWires;
 use crate::calls::split_wires::SplitWires;
@@ -74,9 +74,12 @@ fn put_changed<I: Families>(
         };
         let mut left = OF_EACH;
         while left > 0 {
-            let (input, expected) = draw(GROUP + I::NUMBER, index, &changed);
+            let drawn = draw(GROUP + I::NUMBER, index, MOST_IN_ALL, &changed);
             index += 1;
-            if expected.answer == *answer && is_small(&input, MOST_IN_ALL) && is_new(&input) {
+            let Some((input, expected)) = drawn else {
+                continue;
+            };
+            if expected.answer == *answer && is_new(&input) {
                 left -= 1;
                 put_call(words, &input);
                 words.extend(left_words(&expected));

@@ -198,20 +198,25 @@ fn put_altered_calls(words: &mut Vec<u64>) {
     put_altered(words, split);
 }
 
-/// An input of a group, and what the Rust says to it.
+/// An input of a group and what the Rust says to it, if its slices are short
+/// and have at most so many cells together.
 pub(super) fn draw<I: Families>(
     group: u64,
     index: u64,
+    most: usize,
     make: &dyn Fn(&mut Random, u64) -> I,
-) -> (I, Expected<I>) {
+) -> Option<(I, Expected<I>)> {
     let input = make(&mut Random::new(SEED, group, index), index);
+    if !is_small(&input, most) {
+        return None;
+    }
     let expected = input.expected();
     if expected.answer > 0 {
-        return (input, expected);
+        return Some((input, expected));
     }
     let input = tell_apart(&input);
     let expected = input.expected();
-    (input, expected)
+    Some((input, expected))
 }
 
 /// Adds short calls that are none of the named cases until every quota is full.
@@ -225,17 +230,17 @@ fn store<I: Families>(
     let is_new = is_new();
     let (mut left, mut index) = (quotas.to_vec(), 0);
     while left.iter().any(|&(_, times)| times > 0) {
-        let (input, expected) = draw(group, index, &make);
+        let drawn = draw(group, index, MOST_IN_ALL, &make);
         index += 1;
+        let Some((input, expected)) = drawn else {
+            continue;
+        };
         let quota = left
             .iter_mut()
             .find(|(answer, _)| *answer == expected.answer);
         if let Some((_, times)) = quota {
-            let most = match expected.answer {
-                ..=0 => MOST_IN_ALL,
-                _ => MOST_REFUSED,
-            };
-            if *times > 0 && is_small(&input, most) && is_new(&input) && is_stored(&input) {
+            let fits = expected.answer <= 0 || is_small(&input, MOST_REFUSED);
+            if *times > 0 && fits && is_new(&input) && is_stored(&input) {
                 *times -= 1;
                 put_call(words, &input);
                 words.extend(left_words(&expected));
@@ -331,7 +336,7 @@ fn tell_apart<I: Input>(input: &I) -> I {
 }
 
 /// Whether the slices are short, and have at most so many cells together.
-pub(super) fn is_small<I: Input>(input: &I, most: usize) -> bool {
+fn is_small<I: Input>(input: &I, most: usize) -> bool {
     let sizes: Vec<usize> = input.slices().iter().map(Cells::size).collect();
     sizes.iter().all(|&size| size <= MOST_CELLS) && sizes.iter().sum::<usize>() <= most
 }

@@ -1,5 +1,4 @@
 //! Ports that are wrong in one place each.
-#![allow(dead_code)]
 
 pub mod cut;
 pub mod join;
