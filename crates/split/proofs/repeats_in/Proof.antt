@@ -3,7 +3,6 @@ use mathlib.Core.Path.{_∙_}
 use Prim.Native.Nat.{_-_}
 use native.Mathlib.Omega.{arith}
 use lib.ListN.{length, length-set}
-use borrow.Author.Needs.{needs}
 use Rattle.split.proofs.Repeats.{Looking, looking-start, looking-found, looking-turn, looking-done}
 use Rattle.split.proofs.repeats_in.Statement.{statement}
 use Rattle.split.proofs.repeats_in.Tie as tie

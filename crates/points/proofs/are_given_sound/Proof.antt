@@ -1,5 +1,6 @@
-use Rattle.tables.proofs.Given.{told-none, row-no, rows-none}
--- `tables::are_given_sound` meets its contract. Assumes nothing.
+use Rattle.points.proofs.Given.{row-no, rows-none}
+use Rattle.tables.proofs.Told.{told-none}
+-- `points::are_given_sound` meets its contract. Assumes nothing.
 use mathlib.Core.Path.{_≡_, sym}
 use Prim.Native.Nat.{_≤_, _-_}
 use native.Mathlib.Omega.{arith}
@@ -7,8 +8,8 @@ use borrow.Author.Tests.{not-false}
 use Rattle.checks.specs.Causes.{lowestOf, vertexRowCause, pendingRowCause}
 use Rattle.checks.proofs.Lowest.{lower-none, lowest-start}
 use Rattle.checks.proofs.Sound.{lowest-sound}
-use Rattle.tables.proofs.are_given_sound.Statement.{statement}
-use Rattle.tables.proofs.are_given_sound.Tie as tie
+use Rattle.points.proofs.are_given_sound.Statement.{statement}
+use Rattle.points.proofs.are_given_sound.Tie as tie
 
 abbrev Inv-loop : tie.InvT-loop
 Inv-loop numbers floats count i₀ i = (i ≤ count) × (lowestOf (vertexRowCause numbers floats) i ≡ 0) × (lowestOf (pendingRowCause numbers) i ≡ 0)

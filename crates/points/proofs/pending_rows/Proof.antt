@@ -1,11 +1,11 @@
--- `tables::pending_rows` meets its contract. Assumes nothing.
+-- `points::pending_rows` meets its contract. Assumes nothing.
 use mathlib.Core.Path.{_≡_}
 use Prim.Native.Nat.{_≤_, _-_}
 use native.Mathlib.Omega.{arith}
 use Rattle.checks.specs.Causes.{lowestOf, pendingRowCause}
 use Rattle.checks.proofs.Lowest.{lowest-start, lowest-turn}
-use Rattle.tables.proofs.pending_rows.Statement.{statement}
-use Rattle.tables.proofs.pending_rows.Tie as tie
+use Rattle.points.proofs.pending_rows.Statement.{statement}
+use Rattle.points.proofs.pending_rows.Tie as tie
 
 abbrev Inv-loop : tie.InvT-loop
 Inv-loop numbers count least₀ i₀ least i = (i ≤ count) × (least ≡ lowestOf (pendingRowCause numbers) i)

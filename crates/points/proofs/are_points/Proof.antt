@@ -1,11 +1,11 @@
 use native.Mathlib.Omega.{arith}
-use Rattle.tables.proofs.Given.{not-lying}
--- `tables::are_points` meets its contract. Assumes nothing.
+use Rattle.points.proofs.Given.{not-lying}
+-- `points::are_points` meets its contract. Assumes nothing.
 use borrow.Author.Tests.{le-ltb}
 use Rattle.checks.specs.Causes.{verticesCause, pendingCause}
 use borrow.Author.Needs.{needs}
-use Rattle.tables.proofs.are_points.Statement.{statement}
-use Rattle.tables.proofs.are_points.Tie as tie
+use Rattle.points.proofs.are_points.Statement.{statement}
+use Rattle.points.proofs.are_points.Tie as tie
 
 returns : tie.Need-returns
 returns c = not-lying _ _ _ (λ h. omega (arith, h .0, c .if1 .taken))

@@ -1,9 +1,10 @@
-use Rattle.tables.proofs.Given.{tells-no, row-given, row-cause}
--- `tables::is_given_sound` meets its contract. Assumes nothing.
+use Rattle.points.proofs.Given.{row-given, row-cause}
+use Rattle.tables.proofs.Told.{tells-no}
+-- `points::is_given_sound` meets its contract. Assumes nothing.
 use Rattle.checks.specs.Causes.{lowerOf, vertexRowCause, pendingRowCause}
 use borrow.Author.Needs.{needs}
-use Rattle.tables.proofs.is_given_sound.Statement.{statement}
-use Rattle.tables.proofs.is_given_sound.Tie as tie
+use Rattle.points.proofs.is_given_sound.Statement.{statement}
+use Rattle.points.proofs.is_given_sound.Tie as tie
 
 mul-a : tie.Need-mul-a
 mul-a c = search needs

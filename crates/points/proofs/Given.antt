@@ -1,48 +1,21 @@
 -- Given vertices told in one pass: the test holds just where no row has a cause, 7 included.
 -- Assumes nothing.
 use mathlib.Core.Path.{_≡_, refl, sym, _∙_}
-use mathlib.Core.Bool.{Bool, true, false, not, _&&_}
+use mathlib.Core.Bool.{Bool, true, false, not}
 use mathlib.Core.List.{List}
 use Prim.Native.Nat.{ℕ, _+_, _*_, _≤_, _<_}
 use native.Mathlib.Omega.{arith}
-use borrow.Author.Tests.{eqb-true, eqb-false, eq-eqb, ne-eqb, ltb-false}
+use borrow.Author.Tests.{eqb-false, ltb-false}
 use lib.Dec.{eqb, ltb}
 use lib.ListN.{length, getD}
 use lib.Ieee.{Float, nan}
-use Rattle.floats.specs.Exact.{sizedOf}
 use Rattle.compress.specs.Rows.{vertexOf}
-use Rattle.checks.specs.Causes.{when, lowerOf, lowestOf, floatCause, kindCause, pointCause, vertexCause, vertexRowCause, pendingRowCause, verticesCause, pendingCause}
+use Rattle.checks.specs.Causes.{lowerOf, lowestOf, kindCause, pointCause, vertexCause, vertexRowCause, pendingRowCause, verticesCause, pendingCause}
 use Rattle.checks.proofs.Accepted.{not-when, vertices-accepted}
 use Rattle.checks.proofs.Lowest.{lower-first, lower-last, lower-none, lowest-none}
 use Rattle.checks.proofs.Sound.{no, lower-zero}
+use Rattle.tables.proofs.Told.{tells-no, tells-yes}
 
--- ---- a test that says whether a cause is 0
-pub told-none : (b : Bool) (n : ℕ) → b ≡ eqb n 0 → b ≡ true → n ≡ 0
-told-none b n q e = eqb-true n 0 (sym q ∙ e)
-
-pub tells-no : (n : ℕ) → (n ≡ 0 → ⊥) → false ≡ eqb n 0
-tells-no n h = sym (ne-eqb n 0 h)
-
-pub tells-yes : (n : ℕ) → n ≡ 0 → true ≡ eqb n 0
-tells-yes n h = sym (eq-eqb n 0 h)
-
--- ---- points
-by-three : (a b c : Bool) → (a && b && c) ≡ eqb (lowerOf (when (not a) 4) (lowerOf (when (not b) 4) (when (not c) 4))) 0
-unfolding lowerOf
-by-three true true true = refl
-by-three true true false = refl
-by-three true false true = refl
-by-three true false false = refl
-by-three false true true = refl
-by-three false true false = refl
-by-three false false true = refl
-by-three false false false = refl
-
-pub point-test : (x y z : Float) → (sizedOf x && sizedOf y && sizedOf z) ≡ eqb (pointCause x y z) 0
-unfolding pointCause floatCause
-point-test x y z = by-three (sizedOf x) (sizedOf y) (sizedOf z)
-
--- ---- rows
 module _ (ns : List ℕ) (fs : List Float) (i : ℕ) where
   -- a row without a cause is that of a given vertex
   pub row-given : lowerOf (vertexRowCause ns fs i) (pendingRowCause ns i) ≡ 0 → getD ns (i * 3) 0 ≡ 0

@@ -1,10 +1,10 @@
--- `nearest::tables_cause` meets its contract. Assumes nothing.
-use Rattle.tables.proofs.Given.{told-none}
+-- `points::tables_cause` meets its contract. Assumes nothing.
+use Rattle.tables.proofs.Told.{told-none}
 use Rattle.checks.proofs.Lowest.{lower-first, lower-last, lower-none}
-use Rattle.nearest.specs.Ends.{tablesCause}
+use Rattle.points.specs.Tables.{tablesCause}
 use borrow.Author.Needs.{needs}
-use Rattle.nearest.proofs.tables_cause.Statement.{statement}
-use Rattle.nearest.proofs.tables_cause.Tie as tie
+use Rattle.points.proofs.tables_cause.Statement.{statement}
+use Rattle.points.proofs.tables_cause.Tie as tie
 
 edges-requires : tie.Need-edges-requires
 edges-requires c κs = search needs

@@ -1,9 +1,9 @@
--- `tables::pending` meets its contract. Assumes nothing.
+-- `points::pending` meets its contract. Assumes nothing.
 use borrow.Author.Tests.{lt-ltb, le-ltb}
 use borrow.Author.Needs.{needs}
 use Rattle.checks.specs.Causes.{pendingCause}
-use Rattle.tables.proofs.pending.Statement.{statement}
-use Rattle.tables.proofs.pending.Tie as tie
+use Rattle.points.proofs.pending.Statement.{statement}
+use Rattle.points.proofs.pending.Tie as tie
 
 returns : tie.Need-returns
 unfolding pendingCause
