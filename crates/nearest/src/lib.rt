@@ -10,10 +10,10 @@ use compress::Refusal;
 use compress::Vertex;
 
 // A point in space.
-pub struct Xyz {
-    pub x: f64,
-    pub y: f64,
-    pub z: f64,
+struct Xyz {
+    x: f64,
+    y: f64,
+    z: f64,
 }
 
 // The answer of nearest ends: a vertex of the first stretch and one of the second, or "none".
@@ -51,9 +51,9 @@ fn point_at(numbers: &[u32], floats: &[f64], v: u32) -> Xyz
 }
 
 // A vertex, with its squared distance from a point.
-pub struct Away {
-    pub vertex: u32,
-    pub gap: f64,
+struct Away {
+    vertex: u32,
+    gap: f64,
 }
 
 fn away_at(numbers: &[u32], floats: &[f64], from: Xyz, v: u32) -> Away
