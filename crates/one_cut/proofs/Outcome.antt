@@ -10,28 +10,24 @@ use lib.Seq.{length-take-le, take-set-lt}
 use lib.Dec.{eqb, leb, ltb}
 use borrow.Author.Tests.{leb-false, ltb-false}
 use lib.Ieee.{Float, nan}
-use Rattle.compress.specs.declared.Refusal.the-variants.{NoRoom}
-use Rattle.compress.specs.Layout.{store}
-use Rattle.compress.specs.Shell.{Shell}
-use Rattle.checks.specs.Causes.{wiresCause}
+use Rattle.compress.specs.declared.Refusal.the-variants.{NoRoom, SeveralCuts}
+use Rattle.compress.specs.Layout.{store, put, storeFrom, rows}
+use Rattle.compress.specs.Shell.{Shell, load, countsOf, verticesFit, edgesFit}
+use Rattle.checks.specs.Causes.{wiresCause, when}
 use Rattle.mending.specs.declared.Mend.{Mend}
 use Rattle.mending.specs.Steps.{InPlace}
 use Rattle.cuts.proofs.Small.{cuts-small}
-use Rattle.cutting.proofs.Outcome.{result-full, result-done}
+use Rattle.cutting.proofs.Outcome.{result-full, result-done, Accepted, accepted, vertices-stand, input-small, way-cause}
 use Rattle.compress.specs.declared.Curve.{Curve}
 use Rattle.compress.specs.declared.Edge.{Edge}
-use Rattle.compress.specs.declared.Refusal.the-variants.{SeveralCuts}
 use Rattle.compress.specs.declared.Vertex.the-variants.{Given}
-use Rattle.compress.specs.Layout.{put, storeFrom, rows}
 use Rattle.compress.specs.Records.{pick, firstOf, lastOf}
 use Rattle.compress.specs.Refusals.{refusalOf}
 use Rattle.compress.specs.Rows.{curveOf, edgeOf, edgeAt, vertexAt, edgeNumbers, edgeFloats, vertexNumbers, vertexFloats}
-use Rattle.compress.specs.Shell.{load, countsOf, verticesFit, edgesFit}
 use Rattle.compress.specs.Wires.{total, wiresOf, usesOf}
 use Rattle.compress.proofs.Layouts.{length-rows, rows-none, rows-first, store-first, store-none, store-append, store-set}
 use Rattle.compress.proofs.Room.{both, vertices-room, edges-room}
 use Rattle.compress.proofs.Rows.{edge-numbers-fit, edge-floats-fit, edge-numbers-stand, edge-floats-stand}
-use Rattle.checks.specs.Causes.{when}
 use Rattle.checks.proofs.Accepted.{passed, not-when}
 use Rattle.checks.proofs.Lowest.{lower-none}
 use Rattle.checks.proofs.Small.{when-small, lower-small, refusal-told}
@@ -39,7 +35,6 @@ use Rattle.cutting.specs.declared.Split.the-variants.{Done, Refused}
 use Rattle.cut_edge.specs.Cut.{halvesOf}
 use Rattle.mending.specs.Replace.{replaceWires}
 use Rattle.cutting.specs.Contract.{lentOf, leaves, inputCause}
-use Rattle.cutting.proofs.Outcome.{Accepted, accepted, vertices-stand, input-small, way-cause}
 use Rattle.cuts.specs.declared.Cut.{Cut}
 use Rattle.cuts.specs.Cuts.{cutAt, cutsCause}
 use Rattle.one_cut.specs.Cut.{addedAt, cutOnce}

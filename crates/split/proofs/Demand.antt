@@ -12,7 +12,8 @@ use lib.Seq.{take-append-seam, drop-append-seam, take-at}
 use Rattle.compress.specs.Records.{pick}
 use Rattle.compress.specs.Said.{Said, result, refused}
 use Rattle.compress.specs.Wires.{wiresOf, usesOf, lengthsOf, over}
-use Rattle.walk.specs.Walk.{Answer, wires, count, join}
+use Rattle.walk.specs.Walk.{Answer, wires, join}
+use Rattle.lists.specs.Members.{count}
 use Rattle.walk.specs.Walk as walk
 use Rattle.walk.specs.Claim.{Claimed}
 use Rattle.walk.proofs.Counts.{bit, count-cons, count-append}

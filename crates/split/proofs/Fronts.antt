@@ -15,8 +15,8 @@ use Rattle.compress.specs.Layout.{rows}
 use Rattle.compress.specs.Rows.{edgeOf, edgeAt}
 use Rattle.compress.proofs.Layouts.{length-rows, getD-rows}
 use Rattle.checks.proofs.Accepted.{edge-ends}
-use Rattle.walk.specs.Ends.{endIn, endOf}
-use Rattle.walk.specs.Ends as ends
+use Rattle.lists.specs.Ends.{endIn, endOf}
+use Rattle.lists.specs.Ends as ends
 use Rattle.split.specs.Seams.{Stop, stopAt, seamOf, seamsOf, newUses}
 use Rattle.split.specs.Split.{seams, noEdge, edgeAfter, frontAfter, backAfter, usesToWalk}
 use Rattle.split.specs.Contract.{LentSplit, rebuiltTotal, pairs, givenIn, splitCount}

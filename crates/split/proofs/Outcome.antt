@@ -24,7 +24,7 @@ use Rattle.compress.proofs.Rows.{edge-numbers-stand, edge-floats-stand}
 use Rattle.checks.specs.Causes.{countCause, vertexNumberCause, edgesCause, usesCause}
 use Rattle.checks.proofs.Accepted.{edge-ends}
 use Rattle.checks.proofs.Small.{when-small, pick-small, lower-small, lowest-small, edges-small, uses-small, uv-small, count-small, vertex-number-small, refusal-told}
-use Rattle.walk.specs.Ends.{endOf}
+use Rattle.lists.specs.Ends.{endOf}
 use Rattle.walk.specs.Walk.{Answer, wires}
 use Rattle.walk.specs.Table.{tableWalk}
 use Rattle.walk.proofs.Same.{same}
@@ -35,7 +35,7 @@ use Rattle.split.specs.Contract.{Buffers, LentSplit, leavesSplit, faceTo
 use Rattle.split.specs.Steps.{Walkable, lentWalk, Roomy, afterLent}
 use Rattle.split.proofs.Accepted.{SplitChecked}
 use Rattle.split.proofs.Fronts.{length-seams, length-edges, paired, front-lent, back-lent, uses-known, front-below}
-use Rattle.walk.specs.Ends as ends
+use Rattle.lists.specs.Ends as ends
 use Rattle.walk.specs.Walk as walk
 
 module _ (l : LentSplit) (C : SplitChecked l) where

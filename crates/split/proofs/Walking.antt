@@ -12,7 +12,7 @@ use lib.ListN.{length, getD, take, drop, length-append, length-drop, List·getD-
 use lib.Seq.{sets, take-all, take-at, getD-append-add}
 use Rattle.compress.specs.Records.{pick}
 use Rattle.compress.proofs.Cells.{take-sets}
-use Rattle.walk.specs.Ends.{endIn, endOf, frontOf, backOf, markedOf, Sound}
+use Rattle.lists.specs.Ends.{endIn, endOf, frontOf, backOf, markedOf, Sound}
 use Rattle.walk.specs.Walk.{walk}
 use Rattle.walk.specs.declared.Walked.{Walked}
 use Rattle.walk.specs.Answered.{Traced}

@@ -9,7 +9,7 @@ use lib.ListN.{getD, take}
 use Rattle.compress.specs.Records.{pick, edgeOfUse}
 use Rattle.compress.specs.Said.{result, refused}
 use Rattle.compress.specs.Wires.{wiresOf, usesOf}
-use Rattle.walk.specs.Walk.{count}
+use Rattle.lists.specs.Members.{count}
 use Rattle.walk.specs.Claim.{Wire, out, into}
 use Rattle.split.specs.Seams.{isNewEdge}
 use Rattle.split.specs.Split.{frontAfter, backAfter, usesToWalk}

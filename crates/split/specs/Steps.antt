@@ -9,7 +9,7 @@ use Rattle.compress.specs.Layout.{storeFrom}
 use Rattle.compress.specs.Rows.{edgeNumbers, edgeFloats}
 use Rattle.compress.specs.Said.{result, refused}
 use Rattle.compress.specs.Wires.{usesOf, lengthsOf, over}
-use Rattle.walk.specs.Ends.{frontOf, backOf}
+use Rattle.lists.specs.Ends.{frontOf, backOf}
 use Rattle.walk.specs.Walk.{Answer, wires}
 use Rattle.split.specs.Seams.{newUses, markedBy}
 use Rattle.split.specs.Contract.{Buffers, SplitOutcome}

@@ -6,7 +6,8 @@ use mathlib.Core.Path.{_≡_, refl, sym, _∙_}
 use lib.ListN.{length, set}
 use native.Mathlib.Omega.{arith}
 use borrow.Author.Needs.{needs}
-use Rattle.walk.specs.Ends.{frontOf, backOf, markedOf}
+use Rattle.lists.specs.Ends.{frontOf, backOf, markedOf}
+use Rattle.lists.proofs.Chains.{lists-all}
 use Rattle.walk.proofs.Small.{zeros, front-small, back-small, edge-there, mark-there}
 use Rattle.walk.proofs.Walks.{Between, Along, between-start, between-some, between-begin, between-done, along-on, along-stop, along-close}
 use Rattle.walk.proofs.construct_boundaries.Statement.{statement}
@@ -27,10 +28,12 @@ abbrev μ-walk : tie.MeasureT-walk
 create-vemap-requires : tie.Need-create-vemap-requires Inv-loop μ-loop Inv-walk μ-walk
 create-vemap-requires c κs =
     let s = c .before .before .before .before .before .before .pre .0 in
-    (s .few, (s .there, (front-small s, (refl, refl, zeros 4096, zeros 1024))))
+    (s .few, (s .there, front-small s))
 
 walk-holds : tie.Need-walk-holds Inv-loop μ-loop Inv-walk μ-walk
-walk-holds c = (between-start (c .create-vemap .ensures) (c .before .before .before .before .before .before .before .pre .1 .0) (c .before .before .before .before .before .before .before .pre .1 .1), refl)
+walk-holds c =
+    let p = c .before .before .before .before .before .before .before .pre in
+    (between-start (rw (c .create-vemap .ensures .0, c .create-vemap .ensures .1) (lists-all _ _ _ _ refl refl (zeros 4096) (zeros 1024) (p .0 .few) (front-small (p .0)))) (p .1 .0) (p .1 .1), refl)
 
 lowest-requires : tie.Need-lowest-requires Inv-loop μ-loop Inv-walk μ-walk
 lowest-requires c κs = (c .before .before .walk .inv .0 .start-le, c .before .before .walk .inv .0 .low)
@@ -111,10 +114,11 @@ returns : tie.Need-returns Inv-loop μ-loop Inv-walk μ-walk
 returns c =
     let i = c .before .before .walk .inv in
     ⊎-elim
-    (λ w. rw (w .1) (between-done (i .0) (c .before .before .before .before .before .before .before .before .before .before .pre .0 .few) (w .0 .left) (rw (w .2, i .1, w .4) at (c .answer .ensures))))
+    (λ w.
+    (rw (w .1) (between-done (i .0) (c .before .before .before .before .before .before .before .before .before .before .pre .0 .few) (w .0 .left) (rw (w .2, i .1, w .4) at (c .answer .ensures))), (rw (w .1) (i .0 .long-made), i .0 .long-sizes)))
     (λ w.
     let e = w .7 .ensures in
-    along-stop (w .6 .inv .0) _ _ _ _ (λ g. w .8 .left (e ∙ g)) (rw e at (w .11 .ensures)) (λ g. w .13 .taken (w .12 .ensures ∙ g)) (rw (w .15, w .12 .ensures) at (c .answer .ensures)))
+    (along-stop (w .6 .inv .0) _ _ _ _ (λ g. w .8 .left (e ∙ g)) (rw e at (w .11 .ensures)) (λ g. w .13 .taken (w .12 .ensures ∙ g)) (rw (w .15, w .12 .ensures) at (c .answer .ensures)), (rw (w .14) (w .6 .inv .0 .long-made), i .0 .long-sizes)))
     (c .before .walk-test .came)
 
 pub construct-boundaries-spec : {M : Type 1} → statement M
