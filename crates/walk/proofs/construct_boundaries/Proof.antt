@@ -49,13 +49,13 @@ loop-holds : tie.Need-loop-holds Inv-loop μ-loop Inv-walk μ-walk
 loop-holds c = (between-begin (c .before .before .before .before .before .before .walk .inv .0) (c .before .before .before .before .before .walk-test .taken) (c .before .before .before .before .before .before .before .before .before .before .before .before .before .before .pre .0 .few) (c .before .before .before .lowest .ensures) (c .pop .ensures .0) (c .pop .ensures .1) refl, c .before .before .before .before .before .before .walk .inv .1)
 
 mul-made : tie.Need-mul-made Inv-loop μ-loop Inv-walk μ-walk
-mul-made c = omega (arith, c .loop .inv .0, c .before .before .before .before .before .before .before .before .before .before .before .before .before .before .before .pre .0 .few)
+mul-made c = omega (arith, c .loop .inv .0 .count-is, c .before .before .before .before .before .before .before .before .before .before .before .before .before .before .before .pre .0 .few)
 
 element-write-made : tie.Need-element-write-made Inv-loop μ-loop Inv-walk μ-walk
-element-write-made c = omega (arith, c .loop .inv .0, c .before .before .before .before .before .before .before .before .before .before .before .before .before .before .before .pre .0 .few)
+element-write-made c = omega (arith, c .loop .inv .0 .count-is, c .before .before .before .before .before .before .before .before .before .before .before .before .before .before .before .pre .0 .few)
 
 add-taken : tie.Need-add-taken Inv-loop μ-loop Inv-walk μ-walk
-add-taken c = omega (arith, c .loop .inv .0, c .before .before .before .before .before .before .before .before .before .before .before .before .before .before .before .pre .0 .few)
+add-taken c = omega (arith, c .loop .inv .0 .count-is, c .before .before .before .before .before .before .before .before .before .before .before .before .before .before .before .pre .0 .few)
 
 back-requires : tie.Need-back-requires Inv-loop μ-loop Inv-walk μ-walk
 back-requires c κs =
@@ -84,25 +84,25 @@ loop-again c =
     let a = l .inv .0 in
     let s = c .before .before .before .before .before .before .before .before .before .before .before .before .before .before .before .before .before .before .before .before .before .before .before .pre .0 in
     let e = c .before .before .before .before .before .before .before .back .ensures in
-    (along-on a (s .few) (back-small s (a .place) (l .last) (a .place-lt) (a .last-at)) (λ g. c .before .before .before .before .before .before .if1 .left (e ∙ g)) (rw e at (c .before .before .before .onward .ensures)) (sym (c .before .before .step-cause .ensures) ∙ c .before .if2 .left) (c .step-use .ensures) refl, c .before .if2 .left)
+    (along-on a (s .few) (back-small s (a .place) (l .last) (a .place-lt) (a .last-at)) e (c .before .before .before .before .before .before .if1 .left) (c .before .before .before .onward .ensures) (c .before .before .step-cause .ensures) (c .before .if2 .left) (c .step-use .ensures) refl, c .before .if2 .left)
 
 sub-sizes : tie.Need-sub-sizes Inv-loop μ-loop Inv-walk μ-walk
-sub-sizes c = omega (arith, c .before .before .loop .inv .0)
+sub-sizes c = omega (arith, c .before .before .loop .inv .0 .from-lt)
 
 cast-sizes : tie.Need-cast-sizes Inv-loop μ-loop Inv-walk μ-walk
-cast-sizes c = omega (arith, c .before .before .loop .inv .0, c .before .before .before .before .before .before .before .before .before .before .before .before .before .before .before .before .before .pre .0 .few)
+cast-sizes c = omega (arith, c .before .before .loop .inv .0 .count-is, c .before .before .before .before .before .before .before .before .before .before .before .before .before .before .before .before .before .pre .0 .few)
 
 mul-sizes : tie.Need-mul-sizes Inv-loop μ-loop Inv-walk μ-walk
-mul-sizes c = omega (arith, c .before .before .loop .inv .0, c .before .before .before .before .before .before .before .before .before .before .before .before .before .before .before .before .before .pre .0 .few)
+mul-sizes c = omega (arith, c .before .before .loop .inv .0 .few, c .before .before .loop .inv .0 .from-lt, c .before .before .loop .inv .0 .count-is, c .before .before .before .before .before .before .before .before .before .before .before .before .before .before .before .before .before .pre .0 .few)
 
 element-write-sizes : tie.Need-element-write-sizes Inv-loop μ-loop Inv-walk μ-walk
-element-write-sizes c = omega (arith, c .before .before .loop .inv .0, c .before .before .before .before .before .before .before .before .before .before .before .before .before .before .before .before .before .pre .0 .few)
+element-write-sizes c = omega (arith, c .before .before .loop .inv .0 .few, c .before .before .loop .inv .0 .from-lt, c .before .before .loop .inv .0 .count-is, c .before .before .before .before .before .before .before .before .before .before .before .before .before .before .before .before .before .pre .0 .few)
 
 add-wires : tie.Need-add-wires Inv-loop μ-loop Inv-walk μ-walk
-add-wires c = omega (arith, c .before .before .loop .inv .0, c .before .before .before .before .before .before .before .before .before .before .before .before .before .before .before .before .before .pre .0 .few)
+add-wires c = omega (arith, c .before .before .loop .inv .0 .few, c .before .before .loop .inv .0 .from-lt, c .before .before .loop .inv .0 .count-is, c .before .before .before .before .before .before .before .before .before .before .before .before .before .before .before .before .before .pre .0 .few)
 
 walk-less : tie.Need-walk-less Inv-loop μ-loop Inv-walk μ-walk
-walk-less c = omega (arith, c .before .before .loop .inv .0, c .before .before .before .before .before .before .before .before .before .before .before .before .before .before .before .before .before .pre .0 .few)
+walk-less c = omega (arith, c .before .before .loop .inv .0 .few, c .before .before .loop .inv .0 .from-lt, c .before .before .loop .inv .0 .count-is, c .before .before .before .before .before .before .before .before .before .before .before .before .before .before .before .before .before .pre .0 .few)
 
 walk-again : tie.Need-walk-again Inv-loop μ-loop Inv-walk μ-walk
 walk-again c = (along-close (c .before .before .loop .inv .0) (c .before .before .before .before .before .before .before .before .before .before .before .before .before .before .before .before .before .pre .0 .few) (sym (c .before .back .ensures) ∙ c .if1 .taken) refl, c .before .before .loop .inv .1)
@@ -118,7 +118,7 @@ returns c =
     (rw (w .1) (between-done (i .0) (c .before .before .before .before .before .before .before .before .before .before .pre .0 .few) (w .0 .left) (rw (w .2, i .1, w .4) at (c .answer .ensures))), (rw (w .1) (i .0 .long-made), i .0 .long-sizes)))
     (λ w.
     let e = w .7 .ensures in
-    (along-stop (w .6 .inv .0) _ _ _ _ (λ g. w .8 .left (e ∙ g)) (rw e at (w .11 .ensures)) (λ g. w .13 .taken (w .12 .ensures ∙ g)) (rw (w .15, w .12 .ensures) at (c .answer .ensures)), (rw (w .14) (w .6 .inv .0 .long-made), i .0 .long-sizes)))
+    (along-stop (w .6 .inv .0) _ _ _ _ e (w .8 .left) (w .11 .ensures) (w .12 .ensures) (w .13 .taken) (w .15) (c .answer .ensures), (rw (w .14) (w .6 .inv .0 .long-made), i .0 .long-sizes)))
     (c .before .walk-test .came)
 
 pub construct-boundaries-spec : {M : Type 1} → statement M
