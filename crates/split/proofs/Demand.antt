@@ -18,11 +18,12 @@ use Rattle.walk.specs.Walk as walk
 use Rattle.walk.specs.Claim.{Claimed}
 use Rattle.walk.proofs.Counts.{bit, count-cons, count-append}
 use Rattle.walk.proofs.Tabled.{table-theorem, table-balanced}
-use Rattle.split.specs.Seams.{newUses}
+use Rattle.marks.specs.Marks.{newUses}
 use Rattle.split.specs.Split.{seams, edgesAfter, markedIn, usesToWalk, splitWires}
-use Rattle.split.specs.Contract.{SplitCounts, LentSplit, givenIn, splitCause, SplitOutcome, splitStored, afterWalk, causeOrWalk, splitOutcome}
+use Rattle.split.specs.Contract.{SplitCounts, givenIn, SplitOutcome, splitStored, afterWalk, causeOrWalk, splitOutcome}
+use Rattle.split_causes.specs.Causes.{LentSplit, splitCause}
 use Rattle.split.specs.Demand.{frontIn, backIn, frontsAt, backsAt, counted, KeepsUses}
-use Rattle.split.proofs.Accepted.{split-checked}
+use Rattle.split_causes.proofs.Accepted.{split-checked}
 use Rattle.split.proofs.Fronts.{length-seams, length-edges, uses-known, front-below}
 
 -- ---- the uses of new edges, counted

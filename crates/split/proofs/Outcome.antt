@@ -29,11 +29,15 @@ use Rattle.walk.specs.Walk.{Answer, wires}
 use Rattle.walk.specs.Table.{tableWalk}
 use Rattle.walk.proofs.Same.{same}
 use Rattle.split.specs.declared.Boundaries.the-variants.{SplitRefused}
-use Rattle.split.specs.Seams.{stopAt, seamsOf, newUses, markedBy, repeatsAfter}
+use Rattle.seams.specs.Seams.{stopAt, seamsOf, repeatsAfter}
+use Rattle.marks.specs.Marks.{newUses, markedBy}
 use Rattle.split.specs.Split.{Given, seams, edgesAfter, noEdge, edgeAfter, frontAfter, backAfter, usesToWalk, markedIn, splitWires}
-use Rattle.split.specs.Contract.{Buffers, LentSplit, leavesSplit, faceTotal, rebuiltTotal, pairs, givenIn, splitCount, splitWiresCause, stopCause, stopsCause, splitInputCause, roomCause, splitRoomCause, oddCause, thenCause, splitCause, splitStored, SplitOutcome, afterWalk, causeOrWalk, splitOutcome}
-use Rattle.split.specs.Steps.{Walkable, lentWalk, Roomy, afterLent}
-use Rattle.split.proofs.Accepted.{SplitChecked}
+use Rattle.split_causes.specs.Causes.{Buffers, LentSplit, faceTotal, rebuiltTotal, pairs, splitCount, splitWiresCause, splitInputCause, roomCause, splitRoomCause, thenCause, splitCause}
+use Rattle.split.specs.Contract.{leavesSplit, givenIn, splitStored, SplitOutcome, afterWalk, causeOrWalk, splitOutcome}
+use Rattle.seams.specs.Stops.{stopCause, stopsCause, oddCause}
+use Rattle.marks.specs.Walking.{Walkable, lentWalk}
+use Rattle.split.specs.Steps.{Roomy, afterLent}
+use Rattle.split_causes.proofs.Accepted.{SplitChecked}
 use Rattle.split.proofs.Fronts.{length-seams, length-edges, paired, front-lent, back-lent, uses-known, front-below}
 use Rattle.lists.specs.Ends as ends
 use Rattle.walk.specs.Walk as walk

@@ -18,10 +18,11 @@ use Rattle.walk.specs.declared.Walked.{Walked}
 use Rattle.walk.specs.declared.Walked.the-variants.{Done, DeadEnd, TooManyUses, EmptyList}
 use Rattle.walk.specs.Walk.{Answer, refused}
 use Rattle.split.specs.declared.Boundaries.the-variants.{Split, SplitRefused}
-use Rattle.split.specs.Seams.{stopAt, seamsOf}
-use Rattle.split.specs.Contract.{Buffers, leavesSplit}
+use Rattle.seams.specs.Seams.{stopAt, seamsOf}
+use Rattle.split_causes.specs.Causes.{Buffers}
+use Rattle.split.specs.Contract.{leavesSplit}
 use Rattle.split.specs.Steps.{afterLent}
-use Rattle.split.proofs.Demand.{uses-joined, length-lengths}
+use Rattle.walk.proofs.Storing.{uses-joined, length-lengths}
 use Rattle.split.proofs.Fronts.{length-seamsOf}
 
 lengths-mapped : (ws : List (List ℕ)) → lengthsOf ws ≡ map length ws

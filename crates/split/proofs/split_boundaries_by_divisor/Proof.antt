@@ -3,7 +3,7 @@ use Rattle.split.proofs.Demand.{call-keeps}
 use mathlib.Core.Path.{sym, _∙_}
 use native.Mathlib.Omega.{arith}
 use lib.Seq.{length-take-le}
-use Rattle.split.proofs.Accepted.{split-checked}
+use Rattle.split_causes.proofs.Accepted.{split-checked}
 use Rattle.split.proofs.Outcome.{walkable, roomy, call-walked, call-cause}
 use borrow.Author.Needs.{needs}
 use Rattle.split.proofs.split_boundaries_by_divisor.Statement.{statement}
