@@ -19,6 +19,7 @@ use Rattle.lists.specs.Ends.{endIn, endOf}
 use Rattle.lists.specs.Ends as ends
 use Rattle.seams.specs.Seams.{Stop, stopAt, seamOf, seamsOf}
 use Rattle.marks.specs.Marks.{newUses}
+use Rattle.marks.proofs.Marks.{length-newUses, getD-newUses}
 use Rattle.split.specs.Split.{seams, noEdge, edgeAfter, frontAfter, backAfter, usesToWalk}
 use Rattle.split_causes.specs.Causes.{LentSplit, rebuiltTotal, pairs, splitCount}
 use Rattle.split.specs.Contract.{givenIn}

@@ -6,11 +6,12 @@ use lib.ListN.{length}
 use Rattle.compress.specs.declared.Edge.{Edge}
 use Rattle.compress.specs.Layout.{storeFrom}
 use Rattle.compress.specs.Rows.{edgeNumbers, edgeFloats}
-use Rattle.compress.specs.Said.{Said, result, refused}
+use Rattle.compress.specs.Said.{Said, result, refused, onResult}
 use Rattle.compress.specs.Wires.{usesOf, lengthsOf, over}
 use Rattle.walk.specs.declared.Walked.{Walked}
 use Rattle.walk.specs.declared.Walked.the-variants.{Done, DeadEnd, TooManyUses, EmptyList}
 use Rattle.walk.specs.Walk.{Answer, wires}
+use Rattle.walk.specs.Answered.{WalkCounts}
 use Rattle.split_causes.specs.Causes.{Buffers}
 use Rattle.split.specs.Contract.{SplitOutcome, SplitCounts}
 use Rattle.walk.specs.Walk as walk
@@ -37,11 +38,8 @@ seamsAfter TooManyUses pairs = 0
 seamsAfter EmptyList pairs = 0
 
 -- what is said after the walk, with the edges that there are now
-abbrev pub saidAfter : Walked → ℕ → Said SplitCounts
-saidAfter (Done n t) edges = result (record { wires = n; uses = t; edges = edges })
-saidAfter DeadEnd edges = refused 11
-saidAfter TooManyUses edges = refused 12
-saidAfter EmptyList edges = refused 13
+abbrev pub saidAfter : Said WalkCounts → ℕ → Said SplitCounts
+saidAfter s edges = onResult s (λ c. result (record { wires = c .wires; uses = c .uses; edges = edges }))
 
 -- a place for each of the counted uses, in both buffers, and a row for each seam
 pub record Roomy (b : Buffers) (edges count pairs : ℕ) (fs : List Float) : Type 0 where

@@ -4,6 +4,7 @@ ghost use Prim.Native.Nat.{_+_, _*_};
 ghost use lib.ListN.{length};
 ghost use Rattle.compress.specs.Layout.{rows};
 ghost use Rattle.seams.specs.Seams.{stopAt, seamsOf};
+ghost use Rattle.walk.specs.Answered.{saidWalk};
 ghost use Rattle.marks.specs.Walking.{Walkable, lentWalk};
 ghost use Rattle.split_causes.specs.Causes.{lentSplit};
 ghost use Rattle.split.specs.Contract.{saidSplit, leavesSplit, splitOutcome};
@@ -36,7 +37,7 @@ fn seams_after(walked: Walked, pairs: usize) -> usize
 
 // The answer, with the edges that there are now.
 fn boundaries_of(walked: Walked, edges: usize) -> Boundaries
-    ensures { λ r. ⌜ saidSplit r ≡ saidAfter walked edges ⌝ }
+    ensures { λ r. ⌜ saidSplit r ≡ saidAfter (saidWalk walked) edges ⌝ }
 {
     match walked {
         Walked::Done { wires, uses: count } => Boundaries::Split {
