@@ -29,7 +29,8 @@ use Rattle.non_simple.specs.Divisor.{wireDivisor, findDivisor}
 use Rattle.periodic.specs.Copies.{nearestCopyOf, copyCause, nearestCopySaid}
 use Rattle.walk.specs.Walk.{Answer}
 use Rattle.walk.specs.Table.{steps, opened, tableWalk}
-use Rattle.split.specs.Seams.{seamOf, seamsOf, newUses, occurs, markedBy}
+use Rattle.seams.specs.Seams.{seamOf, seamsOf}
+use Rattle.marks.specs.Marks.{newUses, occurs, markedBy}
 use Rattle.split.specs.Split.{edgesAfter, splitWires}
 use Rattle.split.specs.Split as split
 use Rattle.split.specs.Examples as splits

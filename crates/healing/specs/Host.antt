@@ -12,7 +12,8 @@ use Rattle.compress.specs.Said.{Said, result, none, refused, onResult}
 use Rattle.compress.specs.Shell.{Slices, Counts}
 use Rattle.cutting.specs.Contract.{Outcome}
 use Rattle.joined.specs.Outcome.{JoinOutcome}
-use Rattle.split.specs.Contract.{SplitCounts, Buffers, SplitOutcome}
+use Rattle.split.specs.Contract.{SplitCounts, SplitOutcome}
+use Rattle.split_causes.specs.Causes.{Buffers}
 use Rattle.periodic.specs.declared.Period.{Period}
 use Rattle.periodic.specs.declared.Period.the-variants.{Absent, Every}
 use Rattle.wire_kinds.specs.declared.BoundaryType.{BoundaryType}

@@ -1,5 +1,6 @@
 // The call for hosts that splits boundaries along a divisor.
-ghost use Rattle.split.specs.Contract.{lentSplit, splitOutcome};
+ghost use Rattle.split_causes.specs.Causes.{lentSplit};
+ghost use Rattle.split.specs.Contract.{splitOutcome};
 ghost use Rattle.healing.specs.Host.{HostBoundaries};
 use crate::answers;
 use split::Boundaries;

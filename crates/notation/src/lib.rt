@@ -6,7 +6,7 @@ ghost use lib.Dec.{eqb};
 ghost use lib.Ieee.{nan};
 ghost use lib.ListN.{length, getD, take};
 ghost use Rattle.compress.specs.Records.{pick};
-ghost use Rattle.walk.specs.Walk.{count};
+ghost use Rattle.lists.specs.Members.{count};
 
 // The entry at i, or 0 past the end.
 pub fn at(s: &[u32], i: usize) -> u32

@@ -12,16 +12,19 @@ use lib.Seq.{take-append-seam, drop-append-seam, take-at}
 use Rattle.compress.specs.Records.{pick}
 use Rattle.compress.specs.Said.{Said, result, refused}
 use Rattle.compress.specs.Wires.{wiresOf, usesOf, lengthsOf, over}
-use Rattle.walk.specs.Walk.{Answer, wires, count, join}
+use Rattle.walk.specs.Walk.{Answer, wires}
+use Rattle.lists.specs.Members.{count}
 use Rattle.walk.specs.Walk as walk
 use Rattle.walk.specs.Claim.{Claimed}
 use Rattle.walk.proofs.Counts.{bit, count-cons, count-append}
+use Rattle.walk.proofs.Storing.{uses-joined, length-lengths}
 use Rattle.walk.proofs.Tabled.{table-theorem, table-balanced}
-use Rattle.split.specs.Seams.{newUses}
+use Rattle.marks.specs.Marks.{newUses}
 use Rattle.split.specs.Split.{seams, edgesAfter, markedIn, usesToWalk, splitWires}
-use Rattle.split.specs.Contract.{SplitCounts, LentSplit, givenIn, splitCause, SplitOutcome, splitStored, afterWalk, causeOrWalk, splitOutcome}
+use Rattle.split.specs.Contract.{SplitCounts, givenIn, SplitOutcome, splitStored, afterWalk, causeOrWalk, splitOutcome}
+use Rattle.split_causes.specs.Causes.{LentSplit, splitCause}
 use Rattle.split.specs.Demand.{frontIn, backIn, frontsAt, backsAt, counted, KeepsUses}
-use Rattle.split.proofs.Accepted.{split-checked}
+use Rattle.split_causes.proofs.Accepted.{split-checked}
 use Rattle.split.proofs.Fronts.{length-seams, length-edges, uses-known, front-below}
 
 -- ---- the uses of new edges, counted
@@ -92,16 +95,6 @@ counted-all l u =
     (count-new u (length (givenIn l .edges)) (length (seams (givenIn l))) ∙ rw (length-edges l, length-seams l))
 
 -- ---- wires that were stored, read back
-
-pub uses-joined : (ws : List (List ℕ)) → usesOf ws ≡ join ws
-unfolding usesOf
-uses-joined [] = refl
-uses-joined (w ∷ ws) = ap (λ (x : List ℕ). w ++ x) (uses-joined ws)
-
-pub length-lengths : (ws : List (List ℕ)) → length (lengthsOf ws) ≡ length ws
-unfolding lengthsOf
-length-lengths [] = refl
-length-lengths (w ∷ ws) = ap suc (length-lengths ws)
 
 wires-back : (ws : List (List ℕ)) (rest : List ℕ) → wiresOf (usesOf ws ++ rest) (lengthsOf ws) ≡ ws
 unfolding wiresOf usesOf lengthsOf

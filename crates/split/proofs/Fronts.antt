@@ -15,12 +15,15 @@ use Rattle.compress.specs.Layout.{rows}
 use Rattle.compress.specs.Rows.{edgeOf, edgeAt}
 use Rattle.compress.proofs.Layouts.{length-rows, getD-rows}
 use Rattle.checks.proofs.Accepted.{edge-ends}
-use Rattle.walk.specs.Ends.{endIn, endOf}
-use Rattle.walk.specs.Ends as ends
-use Rattle.split.specs.Seams.{Stop, stopAt, seamOf, seamsOf, newUses}
+use Rattle.lists.specs.Ends.{endIn, endOf}
+use Rattle.lists.specs.Ends as ends
+use Rattle.seams.specs.Seams.{Stop, stopAt, seamOf, seamsOf}
+use Rattle.marks.specs.Marks.{newUses}
+use Rattle.marks.proofs.Marks.{length-newUses, getD-newUses}
 use Rattle.split.specs.Split.{seams, noEdge, edgeAfter, frontAfter, backAfter, usesToWalk}
-use Rattle.split.specs.Contract.{LentSplit, rebuiltTotal, pairs, givenIn, splitCount}
-use Rattle.split.proofs.Accepted.{SplitAccepted}
+use Rattle.split_causes.specs.Causes.{LentSplit, rebuiltTotal, pairs, splitCount}
+use Rattle.split.specs.Contract.{givenIn}
+use Rattle.split_causes.proofs.Accepted.{SplitAccepted}
 
 -- ---- the seams between the vertices of a list
 
@@ -40,20 +43,6 @@ getD-seamsOf s d z (a ∷ b ∷ ps) (suc k) h =
     let p : suc k * 2 ≡ suc (suc (k * 2)) = omega arith in
     let q : suc k * 2 + 1 ≡ suc (suc (k * 2 + 1)) = omega arith in
     rw (q, p) (getD-seamsOf s d z ps k (omega arith))
-
--- ---- the uses of new edges
-
-pub length-newUses : (m k : ℕ) → length (newUses m k) ≡ k * 2
-unfolding newUses
-length-newUses m zero = refl
-length-newUses m (suc k) = omega (arith, length-newUses (m + 1) k)
-
-pub getD-newUses : (m k i : ℕ) → i < k * 2 → getD (newUses m k) i 0 ≡ m * 2 + i
-unfolding newUses
-getD-newUses m zero i h = absurd (omega arith)
-getD-newUses m (suc k) zero h = omega arith
-getD-newUses m (suc k) (suc zero) h = refl
-getD-newUses m (suc k) (suc (suc i)) h = omega (arith, getD-newUses (m + 1) k i (omega arith))
 
 -- ---- off the lent slices
 

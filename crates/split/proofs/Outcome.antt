@@ -24,18 +24,24 @@ use Rattle.compress.proofs.Rows.{edge-numbers-stand, edge-floats-stand}
 use Rattle.checks.specs.Causes.{countCause, vertexNumberCause, edgesCause, usesCause}
 use Rattle.checks.proofs.Accepted.{edge-ends}
 use Rattle.checks.proofs.Small.{when-small, pick-small, lower-small, lowest-small, edges-small, uses-small, uv-small, count-small, vertex-number-small, refusal-told}
-use Rattle.walk.specs.Ends.{endOf}
+use Rattle.lists.specs.Ends.{endOf}
 use Rattle.walk.specs.Walk.{Answer, wires}
 use Rattle.walk.specs.Table.{tableWalk}
 use Rattle.walk.proofs.Same.{same}
 use Rattle.split.specs.declared.Boundaries.the-variants.{SplitRefused}
-use Rattle.split.specs.Seams.{stopAt, seamsOf, newUses, markedBy, repeatsAfter}
+use Rattle.seams.specs.Seams.{stopAt, seamsOf, repeatsAfter}
+use Rattle.marks.specs.Marks.{newUses, markedBy}
 use Rattle.split.specs.Split.{Given, seams, edgesAfter, noEdge, edgeAfter, frontAfter, backAfter, usesToWalk, markedIn, splitWires}
-use Rattle.split.specs.Contract.{Buffers, LentSplit, leavesSplit, faceTotal, rebuiltTotal, pairs, givenIn, splitCount, splitWiresCause, stopCause, stopsCause, splitInputCause, roomCause, splitRoomCause, oddCause, thenCause, splitCause, splitStored, SplitOutcome, afterWalk, causeOrWalk, splitOutcome}
-use Rattle.split.specs.Steps.{Walkable, lentWalk, Roomy, afterLent}
-use Rattle.split.proofs.Accepted.{SplitChecked}
+use Rattle.split_causes.specs.Causes.{Buffers, LentSplit, faceTotal, rebuiltTotal, pairs, splitCount, splitWiresCause, splitInputCause, roomCause, splitRoomCause, thenCause, splitCause}
+use Rattle.split.specs.Contract.{leavesSplit, givenIn, splitStored, SplitOutcome, afterWalk, causeOrWalk, splitOutcome}
+use Rattle.seams.specs.Stops.{stopCause, stopsCause, oddCause}
+use Rattle.marks.specs.Walking.{Walkable, lentWalk}
+use Rattle.split.specs.Steps.{Roomy, afterLent}
+use Rattle.split_causes.proofs.Accepted.{SplitChecked, split-checked}
+use Rattle.split.specs.Demand.{KeepsUses}
+use Rattle.split.proofs.Demand.{call-keeps}
 use Rattle.split.proofs.Fronts.{length-seams, length-edges, paired, front-lent, back-lent, uses-known, front-below}
-use Rattle.walk.specs.Ends as ends
+use Rattle.lists.specs.Ends as ends
 use Rattle.walk.specs.Walk as walk
 
 module _ (l : LentSplit) (C : SplitChecked l) where
@@ -66,7 +72,7 @@ module _ (l : LentSplit) (C : SplitChecked l) where
   row-ends e (suc zero) h g = omega (arith, edge-ends (l .vertices) (edgeAt (l .buffers .en) (l .buffers .ef) e) (C .accepted .edges .rows e h), C .accepted .vertices)
   row-ends e (suc (suc j)) h g = absurd (omega arith)
 
-  pub walkable : Walkable (l .buffers .en) (l .edges) faceIn rebuiltIn stopsIn (pairs l)
+  walkable : Walkable (l .buffers .en) (l .edges) faceIn rebuiltIn stopsIn (pairs l)
   walkable =
       let A = C .accepted in
       let room = edges-room (l .buffers .en) (l .buffers .ef) (l .edges + pairs l) (C .room .edges) in
@@ -88,7 +94,7 @@ module _ (l : LentSplit) (C : SplitChecked l) where
             rw (getD-take (l .stops) (l .divisor) k 0 g) (omega (arith, A .stops-known k g, A .vertices));
       }
 
-  pub roomy : Roomy (l .buffers) (l .edges) (length rebuiltIn + pairs l * 2) (pairs l) (l .points)
+  roomy : Roomy (l .buffers) (l .edges) (length rebuiltIn + pairs l * 2) (pairs l) (l .points)
   roomy =
       let room = edges-room (l .buffers .en) (l .buffers .ef) (l .edges + pairs l) (C .room .edges) in
       record {
@@ -206,11 +212,46 @@ module _ (l : LentSplit) (C : SplitChecked l) where
   stored-same (walk.refused c) = refl
 
   -- no cause before the walk: what the walk comes to
-  pub call-walked : (o : SplitOutcome) → splitCause l ≡ 0
+  call-walked : (o : SplitOutcome) → splitCause l ≡ 0
       → o ≡ afterLent (l .buffers) (l .edges) seamsIn (lentWalk (l .buffers .en) (l .edges) faceIn rebuiltIn stopsIn (pairs l)) → o ≡ splitOutcome l
   unfolding splitOutcome
   call-walked o z q =
       q ∙ ap (afterLent (l .buffers) (l .edges) seamsIn) (sym walk-same) ∙ sym (stored-same (splitWires (givenIn l))) ∙ rw z
+
+  -- the same, of the counts of uses that the call has found
+  module _ (n m : ℕ) (en : n ≡ faceTotal l) (em : m ≡ rebuiltTotal l) where
+    pub face-size : n ≡ length (take n (l .faceUses))
+    face-size = rw en (sym size-face)
+
+    pub rebuilt-size : m ≡ length (take m (l .rebuiltUses))
+    rebuilt-size = rw em (sym size-rebuilt)
+
+    pub lent-walk : Walkable (l .buffers .en) (l .edges) (take n (l .faceUses)) (take m (l .rebuiltUses)) stopsIn (pairs l)
+    lent-walk = rw (en, em) walkable
+
+    pub lent-room : Roomy (l .buffers) (l .edges) (length (take m (l .rebuiltUses)) + pairs l * 2) (pairs l) (l .points)
+    lent-room = rw em roomy
+
+    call-done : (o : SplitOutcome) → splitCause l ≡ 0
+        → o ≡ afterLent (l .buffers) (l .edges) seamsIn (lentWalk (l .buffers .en) (l .edges) (take n (l .faceUses)) (take m (l .rebuiltUses)) stopsIn (pairs l))
+        → (o ≡ splitOutcome l) × KeepsUses l o
+    call-done o z q =
+        let d : o ≡ splitOutcome l = call-walked o z (rw (en, em) at q) in
+        (d, call-keeps l o d)
+
+  pub stops-size : l .stops ≡ length stopsIn
+  stops-size = sym size-stops
+
+-- no cause was found before the walk
+pub checked : (l : LentSplit) (k : ℕ) → k ≡ splitCause l → k ≡ 0 → SplitChecked l
+checked l k e z = split-checked l (sym e ∙ z)
+
+-- and the call leaves what the walk has left
+module _ (l : LentSplit) (k : ℕ) (e : k ≡ splitCause l) (z : k ≡ 0) (n m : ℕ) (en : n ≡ faceTotal l) (em : m ≡ rebuiltTotal l) where
+  pub call-told : (o : SplitOutcome)
+      → o ≡ afterLent (l .buffers) (l .edges) (seamsIn l (checked l k e z)) (lentWalk (l .buffers .en) (l .edges) (take n (l .faceUses)) (take m (l .rebuiltUses)) (stopsIn l (checked l k e z)) (pairs l))
+      → (o ≡ splitOutcome l) × KeepsUses l o
+  call-told o q = call-done l (checked l k e z) n m en em o (sym e ∙ z) q
 
 -- a cause before the walk: its refusal, and nothing written
 or-walk : (k : ℕ) (g : Given) (b : Buffers) (a : Answer) → (k ≡ 0 → ⊥) → causeOrWalk k g b a ≡ record { said = refused k; buffers = b }
@@ -270,9 +311,16 @@ module _ (l : LentSplit) where
       (then-small (splitRoomCause l) _ room-small
       (then-small (oddCause (l .stops)) _ (when-small (eqb (l .stops % 2) 1) 9 (omega arith)) (when-small (repeatsAfter [] (take (l .stops) (l .divisor))) 10 (omega arith))))
 
-  pub call-cause : (k : ℕ) (r : Refusal) → r ≡ refusalOf k → k ≡ splitCause l → (k ≡ 0 → ⊥)
+  call-cause : (k : ℕ) (r : Refusal) → r ≡ refusalOf k → k ≡ splitCause l → (k ≡ 0 → ⊥)
       → leavesSplit (SplitRefused r) (l .buffers .en) (l .buffers .ef) (l .buffers .us) (l .buffers .ls) ≡ splitOutcome l
   unfolding splitOutcome
   call-cause k r p q ne =
       let small : k ≤ 15 = rw q cause-small in
       rw (p, refusal-told k small ne, ← q, or-walk k (givenIn l) (l .buffers) (splitWires (givenIn l)) ne)
+
+  pub call-refused : (k : ℕ) (r : Refusal) → r ≡ refusalOf k → k ≡ splitCause l → (k ≡ 0 → ⊥)
+      → (leavesSplit (SplitRefused r) (l .buffers .en) (l .buffers .ef) (l .buffers .us) (l .buffers .ls) ≡ splitOutcome l)
+      × KeepsUses l (leavesSplit (SplitRefused r) (l .buffers .en) (l .buffers .ef) (l .buffers .us) (l .buffers .ls))
+  call-refused k r p q ne =
+      let d = call-cause k r p q ne in
+      (d, call-keeps l (leavesSplit (SplitRefused r) (l .buffers .en) (l .buffers .ef) (l .buffers .us) (l .buffers .ls)) d)

@@ -1,77 +1,92 @@
--- What the walk left in its own tables, stored, is what the definition says; on a refusal nothing is.
+-- What the walk left in the lent buffers, with the seams stored, is what the definition says; on a refusal nothing is stored.
 -- Assumes nothing.
-use mathlib.Core.Path.{_≡_, refl, ap, subst, _∙_}
-use mathlib.Core.List.{List, [], _∷_, _++_, map}
+use mathlib.Core.Path.{_≡_, ap, _∙_}
+use mathlib.Core.List.{List, []}
 use Prim.Native.Nat.{ℕ, _+_, _*_, _≤_}
 use native.Mathlib.Omega.{arith}
 use lib.Ieee.{Float}
-use lib.ListN.{length, take, drop}
-use lib.Seq.{length-take-le}
+use lib.ListN.{length}
 use Rattle.compress.specs.declared.Edge.{Edge}
-use Rattle.compress.specs.declared.Refusal.the-variants as cause
-use Rattle.compress.specs.Layout.{storeFrom, rows}
+use Rattle.compress.specs.Layout.{Layout, storeFrom, rows}
 use Rattle.compress.specs.Rows.{edgeNumbers, edgeFloats}
-use Rattle.compress.specs.Wires.{usesOf, lengthsOf}
-use Rattle.compress.proofs.Layouts.{length-rows}
-use Rattle.walk.specs.Answered.{total, Made, Traced}
+use Rattle.compress.specs.Said.{Said, result, none, refused}
+use Rattle.compress.proofs.Layouts.{length-rows, rows-none, store-none}
+use Rattle.walk.specs.Answered.{WalkCounts, WalkOutcome, saidWalk, leavesWalk, walkOutcome}
 use Rattle.walk.specs.declared.Walked.{Walked}
 use Rattle.walk.specs.declared.Walked.the-variants.{Done, DeadEnd, TooManyUses, EmptyList}
-use Rattle.walk.specs.Walk.{Answer, refused}
-use Rattle.split.specs.declared.Boundaries.the-variants.{Split, SplitRefused}
-use Rattle.split.specs.Seams.{stopAt, seamsOf}
-use Rattle.split.specs.Contract.{Buffers, leavesSplit}
-use Rattle.split.specs.Steps.{afterLent}
-use Rattle.split.proofs.Demand.{uses-joined, length-lengths}
+use Rattle.walk.specs.Walk.{Answer, wires}
+use Rattle.walk.specs.Walk as walk
+use Rattle.seams.specs.Seams.{stopAt, seamsOf}
+use Rattle.split_causes.specs.Causes.{Buffers}
+use Rattle.split.specs.Contract.{SplitCounts, SplitOutcome}
+use Rattle.split.specs.Steps.{seamsAfter, saidAfter, afterLent}
 use Rattle.split.proofs.Fronts.{length-seamsOf}
 
-lengths-mapped : (ws : List (List ℕ)) → lengthsOf ws ≡ map length ws
-unfolding lengthsOf
-lengths-mapped [] = refl
-lengths-mapped (w ∷ ws) = ap (λ (l : List ℕ). length w ∷ l) (lengths-mapped ws)
-
 -- as many seams as pairs
-pub seams-pairs : (surface pairs : ℕ) (ds : List ℕ) (fs : List Float) → length (seamsOf surface (rows (stopAt ds fs) 0 (pairs * 2))) ≡ pairs
+seams-pairs : (surface pairs : ℕ) (ds : List ℕ) (fs : List Float) → length (seamsOf surface (rows (stopAt ds fs) 0 (pairs * 2))) ≡ pairs
 seams-pairs surface pairs ds fs =
     let l : length (rows (stopAt ds fs) 0 (pairs * 2)) ≡ pairs * 2 = length-rows (stopAt ds fs) 0 (pairs * 2) in
     length-seamsOf surface (rows (stopAt ds fs) 0 (pairs * 2)) ∙ rw l (omega arith)
 
-module _ (a : Answer) (k : ℕ) (made sizes : List ℕ) (r : Walked) (T : Traced a k made sizes r) where
-  pub traced-done : (n t : ℕ) → r ≡ Done n t → Made a made sizes n t × (t ≡ k)
-  unfolding Traced
-  traced-done n t e = subst (λ (x : Walked). Traced a k made sizes x) e T
+-- no more seams than pairs
+pub seams-le : (r : Walked) (pairs : ℕ) → seamsAfter r pairs ≤ pairs
+seams-le (Done n t) pairs = omega arith
+seams-le DeadEnd pairs = omega arith
+seams-le TooManyUses pairs = omega arith
+seams-le EmptyList pairs = omega arith
 
-  module _ (en : List ℕ) (ef : List Float) (us ls : List ℕ) (edges : ℕ) (seams : List Edge) where
-    abbrev lent : Buffers
-    lent = record { en = en; ef = ef; us = us; ls = ls }
+-- no seam stored
+no-seams : {A : Type 0} (l : Layout A Edge) (s : List A) (surface edges : ℕ) (ds : List ℕ) (fs : List Float)
+    → storeFrom l s edges (seamsOf surface (rows (stopAt ds fs) 0 (0 * 2))) ≡ s
+unfolding seamsOf
+no-seams l s surface edges ds fs =
+    let z : rows (stopAt ds fs) 0 (0 * 2) ≡ [] = rows-none (stopAt ds fs) 0 in
+    rw (z, store-none)
 
-    pub stored-dead : r ≡ DeadEnd → leavesSplit (SplitRefused cause.DeadEnd) en ef us ls ≡ afterLent lent edges seams a
-    unfolding Traced
-    stored-dead e =
-        let q : a ≡ refused 11 = subst (λ (x : Walked). Traced a k made sizes x) e T in
-        rw q
+-- a result is not a refusal
+abbrev refusals : Said WalkCounts → ℕ
+refusals (result c) = 0
+refusals none = 0
+refusals (refused n) = 1
 
-    pub stored-many : r ≡ TooManyUses → leavesSplit (SplitRefused cause.TooManyUses) en ef us ls ≡ afterLent lent edges seams a
-    unfolding Traced
-    stored-many e =
-        let q : a ≡ refused 12 = subst (λ (x : Walked). Traced a k made sizes x) e T in
-        rw q
+module _ (en : List ℕ) (ef : List Float) (us ls : List ℕ) (en′ : List ℕ) (ef′ : List Float) (us′ ls′ : List ℕ) (edges : ℕ) (seams : List Edge) where
+  abbrev lent : Buffers
+  lent = record { en = en; ef = ef; us = us; ls = ls }
 
-    pub stored-empty : r ≡ EmptyList → leavesSplit (SplitRefused cause.EmptyList) en ef us ls ≡ afterLent lent edges seams a
-    unfolding Traced
-    stored-empty e =
-        let q : a ≡ refused 13 = subst (λ (x : Walked). Traced a k made sizes x) e T in
-        rw q
+  abbrev leaves : Said SplitCounts → SplitOutcome
+  leaves s = record { said = s; buffers = record { en = en′; ef = ef′; us = us′; ls = ls′ } }
 
-    pub stored-done : (n t pairs : ℕ) → r ≡ Done n t → k ≤ 1024 → length seams ≡ pairs → (en′ : List ℕ) (ef′ : List Float) (us′ ls′ : List ℕ)
-        → en′ ≡ storeFrom edgeNumbers en edges seams → ef′ ≡ storeFrom edgeFloats ef edges seams
-        → us′ ≡ take (total (take n sizes)) made ++ drop (total (take n sizes)) us → ls′ ≡ take n sizes ++ drop n ls
-        → leavesSplit (Split n t (edges + pairs)) en′ ef′ us′ ls′ ≡ afterLent lent edges seams a
-    stored-done n t pairs e few p en′ ef′ us′ ls′ een eef eu el =
-        let d = traced-done n t e in
-        let m = d .0 in
-        let ws = m .ws in
-        let u : usesOf ws ≡ take t made = uses-joined ws ∙ m .joined in
-        let lu : length (usesOf ws) ≡ t = rw u (length-take-le t made (omega (arith, m .long-made, d .1))) in
-        let h : lengthsOf ws ≡ take n sizes = lengths-mapped ws ∙ m .sized in
-        let lh : length (lengthsOf ws) ≡ n = length-lengths ws ∙ m .count in
-        rw (m .is, m .count, lu, lh, p, een, eef, eu, el, m .summed, u, h)
+  abbrev walked : Said WalkCounts → WalkOutcome
+  walked s = record { said = s; us = us′; ls = ls′ }
+
+  stored-stop : (k : ℕ) (a : Answer) → walked (refused k) ≡ walkOutcome a us ls → en′ ≡ en → ef′ ≡ ef → leaves (refused k) ≡ afterLent lent edges seams a
+  stored-stop k (wires ws) T een eef = absurd (omega (arith, ap (λ (o : WalkOutcome). refusals (o .said)) T))
+  stored-stop k (walk.refused c) T een eef =
+      let s : _≡_ {A = Said SplitCounts} (refused k) (refused c) = ap (λ (o : WalkOutcome). saidAfter (o .said) 0) T in
+      rw (een, eef, ap (λ (o : WalkOutcome). o .us) T, ap (λ (o : WalkOutcome). o .ls) T, s)
+
+  stored-done : (c : WalkCounts) (e : ℕ) (a : Answer) → walked (result c) ≡ walkOutcome a us ls → e ≡ edges + length seams
+      → en′ ≡ storeFrom edgeNumbers en edges seams → ef′ ≡ storeFrom edgeFloats ef edges seams → leaves (saidAfter (result c) e) ≡ afterLent lent edges seams a
+  stored-done c e (walk.refused k) T q een eef = absurd (omega (arith, ap (λ (o : WalkOutcome). refusals (o .said)) T))
+  stored-done c e (wires ws) T q een eef =
+      rw (ap (λ (o : WalkOutcome). saidAfter (o .said) e) T, q, een, eef, ap (λ (o : WalkOutcome). o .us) T, ap (λ (o : WalkOutcome). o .ls) T)
+
+module _ (en : List ℕ) (ef : List Float) (us ls : List ℕ) (en′ : List ℕ) (ef′ : List Float) (us′ ls′ : List ℕ) (edges pairs surface : ℕ) (ds : List ℕ) (fs : List Float) (a : Answer) where
+  abbrev seamsTo : ℕ → List Edge
+  seamsTo m = seamsOf surface (rows (stopAt ds fs) 0 (m * 2))
+
+  -- as many seams are stored as the walk's answer says
+  by-answer : (r : Walked) → leavesWalk r us′ ls′ ≡ walkOutcome a us ls
+      → en′ ≡ storeFrom edgeNumbers en edges (seamsTo (seamsAfter r pairs)) → ef′ ≡ storeFrom edgeFloats ef edges (seamsTo (seamsAfter r pairs))
+      → leaves en ef us ls en′ ef′ us′ ls′ edges (seamsTo pairs) (saidAfter (saidWalk r) (edges + seamsAfter r pairs)) ≡ afterLent (lent en ef us ls en′ ef′ us′ ls′ edges (seamsTo pairs)) edges (seamsTo pairs) a
+  by-answer (Done n t) T een eef =
+      stored-done en ef us ls en′ ef′ us′ ls′ edges (seamsTo pairs) (record { wires = n; uses = t }) (edges + pairs) a T (rw (seams-pairs surface pairs ds fs)) een eef
+  by-answer DeadEnd T een eef = stored-stop en ef us ls en′ ef′ us′ ls′ edges (seamsTo pairs) 11 a T (een ∙ no-seams edgeNumbers en surface edges ds fs) (eef ∙ no-seams edgeFloats ef surface edges ds fs)
+  by-answer TooManyUses T een eef = stored-stop en ef us ls en′ ef′ us′ ls′ edges (seamsTo pairs) 12 a T (een ∙ no-seams edgeNumbers en surface edges ds fs) (eef ∙ no-seams edgeFloats ef surface edges ds fs)
+  by-answer EmptyList T een eef = stored-stop en ef us ls en′ ef′ us′ ls′ edges (seamsTo pairs) 13 a T (een ∙ no-seams edgeNumbers en surface edges ds fs) (eef ∙ no-seams edgeFloats ef surface edges ds fs)
+
+  pub stored : (r : Walked) (m : ℕ) (s : Said SplitCounts) → leavesWalk r us′ ls′ ≡ walkOutcome a us ls → m ≡ seamsAfter r pairs → s ≡ saidAfter (saidWalk r) (edges + m)
+      → en′ ≡ storeFrom edgeNumbers en edges (seamsTo m) → ef′ ≡ storeFrom edgeFloats ef edges (seamsTo m)
+      → _≡_ {A = SplitOutcome} (record { said = s; buffers = record { en = en′; ef = ef′; us = us′; ls = ls′ } })
+      (afterLent (record { en = en; ef = ef; us = us; ls = ls }) edges (seamsTo pairs) a)
+  stored r m s T em es een eef = rw (es, em) (by-answer r T (rw em at een) (rw em at eef))

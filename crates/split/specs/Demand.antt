@@ -9,11 +9,12 @@ use lib.ListN.{getD, take}
 use Rattle.compress.specs.Records.{pick, edgeOfUse}
 use Rattle.compress.specs.Said.{result, refused}
 use Rattle.compress.specs.Wires.{wiresOf, usesOf}
-use Rattle.walk.specs.Walk.{count}
+use Rattle.lists.specs.Members.{count}
 use Rattle.walk.specs.Claim.{Wire, out, into}
-use Rattle.split.specs.Seams.{isNewEdge}
+use Rattle.marks.specs.Marks.{isNewEdge}
 use Rattle.split.specs.Split.{frontAfter, backAfter, usesToWalk}
-use Rattle.split.specs.Contract.{SplitCounts, LentSplit, rebuiltTotal, pairs, givenIn, splitCause, SplitOutcome}
+use Rattle.split.specs.Contract.{SplitCounts, givenIn, SplitOutcome}
+use Rattle.split_causes.specs.Causes.{LentSplit, rebuiltTotal, pairs, splitCause}
 
 -- the front and the back of a use: "those of the lent edges and of the pairs"
 abbrev pub frontIn : LentSplit → ℕ → ℕ

@@ -1,5 +1,4 @@
 -- The definitions that the contract of the split cites, with worked examples.
-pub mod Seams
 pub mod Split
 pub mod Contract
 pub mod Steps

@@ -5,7 +5,8 @@ use mathlib.Core.Path.{_≡_, refl, ap, subst}
 use mathlib.Core.Logic.{_≢_, _⊎_, inl, inr, ⊎-elim}
 use mathlib.Core.Bool.{Bool}
 use mathlib.Core.List.{List}
-use Rattle.walk.specs.Walk.{Answer, wires, refused, count, walk}
+use Rattle.walk.specs.Walk.{Answer, wires, refused, walk}
+use Rattle.lists.specs.Members.{count}
 use Rattle.walk.specs.Claim.{out, into}
 use Rattle.walk.proofs.Theorem.{Even, Small, Known, walk-known}
 

@@ -5,7 +5,7 @@ pub mod Same
 pub mod Balance
 pub mod Tabled
 pub mod Small
-pub mod Chains
 pub mod Steps
 pub mod Walks
 pub mod Copying
+pub mod Storing

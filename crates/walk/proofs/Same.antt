@@ -10,10 +10,11 @@ use mathlib.Core.List.{List, [], _∷_, _++_, append-nil, append-assoc}
 use lib.ListN.{length, getD}
 use lib.Dec.{eqb, ltb}
 use borrow.Author.Tests.{eqb-true, eqb-false, ne-eqb, ltb-true, ltb-false}
-use Rattle.walk.specs.Walk.{Move, finish, refuse, fresh, along, State, put, del, sits, at, least, begin, begun, choose, closed, gone, turn, move, run, walk}
-use Rattle.walk.specs.Table.{Entry, absent, Table, Start, nowhere, vertex, Stand, pick, entryUses, hasUses, kept, update, pushed, filled, tableOf, without, taken}
-use Rattle.walk.specs.Table.{firstFrom, smallest, again, arrive, starts, follows, next, steps, opened, tableWalk}
-use Rattle.walk.proofs.Buckets.{del-nil, at-same, at-other, at-more, filter-snoc, begin-finish, begin-fresh}
+use Rattle.walk.specs.Walk.{Move, finish, refuse, fresh, along, State, least, begin, begun, choose, closed, gone, turn, move, run, walk}
+use Rattle.lists.specs.Members.{put, del, sits, at, without}
+use Rattle.walk.specs.Table.{Entry, absent, Table, Start, nowhere, vertex, Stand, pick, entryUses, hasUses, kept, update, pushed, filled, tableOf, taken, firstFrom, smallest, again, arrive, starts, follows, next, steps, opened, tableWalk}
+use Rattle.lists.proofs.Members.{del-nil, at-same, at-other, at-more, filter-snoc}
+use Rattle.walk.proofs.Buckets.{begin-finish, begin-fresh}
 
 -- ---- entries
 

@@ -8,12 +8,7 @@ use mathlib.Core.List.{List}
 use lib.ListN.{length, getD, replicate}
 use lib.Dec.{ltb}
 use borrow.Author.Tests.{ltb-true, ltb-false}
-use Rattle.walk.specs.Ends.{frontOf, backOf, HasEnds, Sound}
-use Rattle.walk.specs.Lists.{exactlyOne}
-
-pub from-false : (b : Bool) → b ≡ exactlyOne false b
-from-false true = refl
-from-false false = refl
+use Rattle.lists.specs.Ends.{frontOf, backOf, HasEnds, Sound}
 
 -- a table of zeros is 0 everywhere
 pub zeros : (n k : ℕ) → _≡_ {A = ℕ} (getD {A = ℕ} (replicate n 0) k 0) 0

@@ -10,10 +10,11 @@ use mathlib.Core.List.{List, [], _∷_, _++_, map, append-nil, append-assoc}
 use lib.ListN.{length, take, drop, getD, set, take-append-drop}
 use lib.Seq.{length-take-le, take-suc-set, take-take, drop-append-le, drop-at}
 use borrow.Author.Tests.{eq-eqb}
-use Rattle.walk.specs.Walk.{Answer, wires, refused, Move, refuse, along, State, count, del, join, sits, at, least, begin, begun, choose, turn, move, run, walk}
+use Rattle.walk.specs.Walk.{Answer, wires, refused, Move, refuse, along, State, join, least, begin, begun, choose, turn, move, run, walk}
+use Rattle.lists.specs.Members.{count, del, sits, at}
 use Rattle.walk.proofs.Counts.{took, count-all}
 use Rattle.walk.proofs.Buckets.{least-is, move-on}
-use Rattle.walk.proofs.Chains.{last-is}
+use Rattle.lists.proofs.Chains.{last-is}
 
 module _ (front back : ℕ → ℕ) (marked : ℕ → Bool) where
   -- from s a wire is under way, u its last use

@@ -10,8 +10,8 @@ use lib.ListN.{length, getD, length-append, List·getD-append}
 use lib.Seq.{getD-at}
 use lib.Dec.{eqb}
 use borrow.Author.Tests.{eqb-true, eqb-false, eq-eqb, ne-eqb}
-use Rattle.walk.specs.Walk.{Answer, wires, refused, Move, finish, refuse, fresh, along, State}
-use Rattle.walk.specs.Walk.{count, del, join, side, sits, at, least, begin, begun, choose, closed, gone, turn, move, run, walk}
+use Rattle.walk.specs.Walk.{Answer, wires, refused, Move, finish, refuse, fresh, along, State, join, side, least, begin, begun, choose, closed, gone, turn, move, run, walk}
+use Rattle.lists.specs.Members.{count, del, sits, at}
 use Rattle.walk.specs.Claim.{Wire, out, into, Walks}
 use Rattle.walk.proofs.Counts.{bit, count-cons, count-append, count-join, took, passes, count-all, snoc-all, least-has}
 

@@ -10,13 +10,15 @@ use mathlib.Core.List.{List, [], _∷_, _++_, map}
 use lib.ListN.{length, take, drop, getD, set, length-append, length-set, length-drop, List·getD-eq-default}
 use lib.Seq.{length-take-le, take-suc-set, take-set-le, getD-set-other}
 use Rattle.walk.proofs.Small.{less-or}
-use Rattle.walk.specs.Walk.{refuse, along, side, count, del, join, sits, at, choose, walk}
+use Rattle.walk.specs.Walk.{refuse, along, side, join, choose, walk}
+use Rattle.lists.specs.Members.{count, del, sits, at}
 use Rattle.walk.proofs.Buckets.{all-empty}
-use Rattle.walk.specs.declared.Step.{Step}
+use Rattle.step.specs.declared.Step.{Step}
 use Rattle.walk.specs.declared.Walked.{Walked}
-use Rattle.walk.specs.Lists.{entryOf, Lists, Lowest, exactlyOne, Went, absent, empty, many, one, second, first}
-use Rattle.walk.specs.Answered.{causeOf, useOf, walkedOf, total, Traced}
-use Rattle.walk.proofs.Chains.{chain-none, node, entry-some, lists-last, lists-first, two, one-only, three}
+use Rattle.lists.specs.Lists.{entryOf, Lists, Lowest}
+use Rattle.step.specs.Arrival.{exactlyOne, Went, absent, empty, many, one, second, first, causeOf, useOf}
+use Rattle.walk.specs.Answered.{walkedOf, total, Traced}
+use Rattle.lists.proofs.Chains.{chain-none, node, entry-some, lists-last, lists-first, two, one-only, three}
 use Rattle.walk.proofs.Steps.{going, after, after-walk, after-nil, going-refused, going-along, going-closed, after-fresh, shorter, wire-more, wire-first, wire-joined, join-snoc, map-snoc}
 
 side-second : (a b : Bool) → exactlyOne a b ≡ false → side a b ≡ 1
@@ -222,19 +224,19 @@ module _ {front back : ℕ → ℕ} {marked : ℕ → Bool} {us : List ℕ} wher
         (λ w h. rw eh (low-last v p (entryOf (getD nx p 0)) hp w h)) em
 
     -- a step that takes a use
-    pub along-on : {s : Step} {hd′ nx′ made′ : List ℕ} {u : ℕ} → length us ≤ 1024 → back last < 4096 → back last ≢ start → Went marked us hd nx (back last) last s hd′ nx′
+    took-use : {s : Step} {hd′ nx′ made′ : List ℕ} {u : ℕ} → length us ≤ 1024 → back last < 4096 → back last ≢ start → Went marked us hd nx (back last) last s hd′ nx′
         → causeOf s ≡ 0 → u ≡ useOf s → made′ ≡ set made taken u → Along front back marked us hd′ nx′ made′ sizes start from (taken + 1) n u
-    along-on {s} {hd′} {nx′} {made′} {u} fits small d (absent h e) es us-is em = absurd (omega (arith, sym (ap causeOf e) ∙ es))
-    along-on {s} {hd′} {nx′} {made′} {u} fits small d (empty h e) es us-is em = absurd (omega (arith, sym (ap causeOf e) ∙ es))
-    along-on {s} {hd′} {nx′} {made′} {u} fits small d (many p a b hp ha hb e) es us-is em = absurd (omega (arith, sym (ap causeOf e) ∙ es))
-    along-on {s} {hd′} {nx′} {made′} {u} fits small d (one p hp hz e eh en) es us-is em =
+    took-use {s} {hd′} {nx′} {made′} {u} fits small d (absent h e eh en) es us-is em = absurd (omega (arith, sym (ap causeOf e) ∙ es))
+    took-use {s} {hd′} {nx′} {made′} {u} fits small d (empty h e eh en) es us-is em = absurd (omega (arith, sym (ap causeOf e) ∙ es))
+    took-use {s} {hd′} {nx′} {made′} {u} fits small d (many p a b hp ha hb e eh en) es us-is em = absurd (omega (arith, sym (ap causeOf e) ∙ es))
+    took-use {s} {hd′} {nx′} {made′} {u} fits small d (one p hp hz e eh en) es us-is em =
         let x : hd′ ≡ set hd (back last) (entryOf (getD nx p 0)) = eh ∙ sym (ap (λ (j : ℕ). set hd (back last) (entryOf j)) hz) in
         along-last hd′ nx′ made′ 0 u p (getD us p 0 ∷ []) fits small d hp (one-only front us (length us) hd nx (A .rest) (A .lists) (back last) p hp hz) refl refl refl (us-is ∙ ap useOf e) x en em
-    along-on {s} {hd′} {nx′} {made′} {u} fits small d (second p a hp ha hz hm e eh en) es us-is em =
+    took-use {s} {hd′} {nx′} {made′} {u} fits small d (second p a hp ha hz hm e eh en) es us-is em =
         let x : hd′ ≡ set hd (back last) (entryOf (getD nx p 0)) = eh ∙ ap (λ (j : ℕ). set hd (back last) j) (sym (entry-some (getD nx p 0) a ha)) in
         along-last hd′ nx′ made′ 1 u p (getD us a 0 ∷ getD us p 0 ∷ []) fits small d hp (two front us (length us) hd nx (A .rest) (A .lists) (back last) p hp a ha hz)
         (ap along (side-second (marked last) (marked (getD us a 0)) hm)) refl refl (us-is ∙ ap useOf e) x en em
-    along-on {s} {hd′} {nx′} {made′} {u} fits small d (first p a hp ha hz hm e eh en) es us-is em =
+    took-use {s} {hd′} {nx′} {made′} {u} fits small d (first p a hp ha hz hm e eh en) es us-is em =
         let v = back last in
         let L = A .lists in
         let eu : u ≡ getD us a 0 = us-is ∙ ap useOf e in
@@ -246,22 +248,30 @@ module _ {front back : ℕ → ℕ} {marked : ℕ → Bool} {us : List ℕ} wher
         below2 : (p a : ℕ) → getD hd (back last) 0 ≡ p + 2 → getD nx p 0 ≡ a + 1 → a < length us
         below2 p a hp ha = omega (arith, A .lists .tables .nexts p)
 
+    pub along-on : {s : Step} {hd′ nx′ made′ : List ℕ} {u v k : ℕ} → length us ≤ 1024 → back last < 4096 → v ≡ back last → v ≢ start → Went marked us hd nx v last s hd′ nx′
+        → k ≡ causeOf s → k ≡ 0 → u ≡ useOf s → made′ ≡ set made taken u → Along front back marked us hd′ nx′ made′ sizes start from (taken + 1) n u
+    along-on fits small ev d w ek z eu em = took-use fits small (λ g. d (ev ∙ g)) (rw ev at w) (sym ek ∙ z) eu em
+
     -- a step at which the walk stops
-    pub along-stop : {s : Step} {hd′ nx′ : List ℕ} {r : Walked} (made′ sizes′ : List ℕ) (m t : ℕ) → back last ≢ start → Went marked us hd nx (back last) last s hd′ nx′ → causeOf s ≢ 0
+    stopped : {s : Step} {hd′ nx′ : List ℕ} {r : Walked} (made′ sizes′ : List ℕ) (m t : ℕ) → back last ≢ start → Went marked us hd nx (back last) last s hd′ nx′ → causeOf s ≢ 0
         → r ≡ walkedOf (causeOf s) m t → Traced (walk front back marked us) (length us) made′ sizes′ r
     unfolding Traced walkedOf
-    along-stop made′ sizes′ m t d (absent h e) es er =
+    stopped made′ sizes′ m t d (absent h e eh en) es er =
         subst (λ (x : Walked). Traced (walk front back marked us) (length us) made′ sizes′ x) (sym (er ∙ ap (λ (x : Step). walkedOf (causeOf x) m t) e))
         (sym (A .to) ∙ going-refused front back marked start last (A .rest) (drop from (take taken made)) (A .ws) (length (A .rest)) 11 [] d
         (chain-none front us nx (length us) (back last) (getD hd (back last) 0 - 1) (at front (back last) (A .rest)) (omega arith) (A .lists .chains (back last))) refl)
-    along-stop made′ sizes′ m t d (empty h e) es er = absurd (A .lists .dropped (back last) h)
-    along-stop made′ sizes′ m t d (many p a b hp ha hb e) es er =
+    stopped made′ sizes′ m t d (empty h e eh en) es er = absurd (A .lists .dropped (back last) h)
+    stopped made′ sizes′ m t d (many p a b hp ha hb e eh en) es er =
         subst (λ (x : Walked). Traced (walk front back marked us) (length us) made′ sizes′ x) (sym (er ∙ ap (λ (x : Step). walkedOf (causeOf x) m t) e))
         (sym (A .to) ∙ going-refused front back marked start last (A .rest) (drop from (take taken made)) (A .ws) (length (A .rest)) 12 (at front (back last) (A .rest)) d refl
         (many-refused marked (marked last) (at front (back last) (A .rest)) (three front us (length us) hd nx (A .rest) (A .lists) (back last) p hp a b ha hb)))
-    along-stop made′ sizes′ m t d (one p hp hz e eh en) es er = absurd (es (ap causeOf e))
-    along-stop made′ sizes′ m t d (second p a hp ha hz hm e eh en) es er = absurd (es (ap causeOf e))
-    along-stop made′ sizes′ m t d (first p a hp ha hz hm e eh en) es er = absurd (es (ap causeOf e))
+    stopped made′ sizes′ m t d (one p hp hz e eh en) es er = absurd (es (ap causeOf e))
+    stopped made′ sizes′ m t d (second p a hp ha hz hm e eh en) es er = absurd (es (ap causeOf e))
+    stopped made′ sizes′ m t d (first p a hp ha hz hm e eh en) es er = absurd (es (ap causeOf e))
+
+    pub along-stop : {s : Step} {hd′ nx′ : List ℕ} {r : Walked} {v k j : ℕ} (made′ sizes′ : List ℕ) (m t : ℕ) → v ≡ back last → v ≢ start → Went marked us hd nx v last s hd′ nx′
+        → k ≡ causeOf s → k ≢ 0 → j ≡ k → r ≡ walkedOf j m t → Traced (walk front back marked us) (length us) made′ sizes′ r
+    along-stop made′ sizes′ m t ev d w ek ne ej er = stopped made′ sizes′ m t (λ g. d (ev ∙ g)) (rw ev at w) (λ g. ne (ek ∙ g)) (rw (ej, ek) at er)
 
     -- the wire is closed
     pub along-close : {sizes′ : List ℕ} → length us ≤ 1024 → back last ≡ start → sizes′ ≡ set sizes n (taken - from) → Between front back marked us hd nx made sizes′ start taken (n + 1)

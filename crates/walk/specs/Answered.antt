@@ -1,28 +1,16 @@
--- What a step and the walk answer, by document 01's numbers, and what the walk leaves in its two tables. Definitions only.
+-- What the walk answers, by document 01's numbers, and what it leaves in its two tables and in the lent buffers. Definitions only.
 use Prim.Native.Nat.{ℕ, _+_, _≤_}
 use mathlib.Core.Path.{_≡_}
 use mathlib.Core.List.{List, [], _∷_, map}
 use lib.ListN.{length, take}
 use lib.Dec.{eqb}
 use Rattle.compress.specs.Records.{pick}
+use Rattle.compress.specs.Said.{Said, result}
+use Rattle.compress.specs.Said as said
+use Rattle.compress.specs.Wires.{usesOf, lengthsOf, over}
 use Rattle.walk.specs.Walk.{Answer, wires, refused, join}
-use Rattle.walk.specs.declared.Step.{Step}
-use Rattle.walk.specs.declared.Step.the-variants as step
 use Rattle.walk.specs.declared.Walked.{Walked}
 use Rattle.walk.specs.declared.Walked.the-variants.{Done, DeadEnd, TooManyUses, EmptyList}
-
--- The number of a step's refusal, 0 where it takes a use, and the use.
-abbrev pub causeOf : Step → ℕ
-causeOf (step.Use u) = 0
-causeOf step.DeadEnd = 11
-causeOf step.TooManyUses = 12
-causeOf step.EmptyList = 13
-
-abbrev pub useOf : Step → ℕ
-useOf (step.Use u) = u
-useOf step.DeadEnd = 0
-useOf step.TooManyUses = 0
-useOf step.EmptyList = 0
 
 -- What the walk comes to, by that number.
 unfoldable pub walkedOf : ℕ → ℕ → ℕ → Walked
@@ -51,3 +39,39 @@ Traced a k made sizes (Done n t) = Made a made sizes n t × (t ≡ k)
 Traced a k made sizes DeadEnd = a ≡ refused 11
 Traced a k made sizes TooManyUses = a ≡ refused 12
 Traced a k made sizes EmptyList = a ≡ refused 13
+
+-- ---- the lent buffers
+
+-- how many wires and uses a walk has made
+pub record WalkCounts : Type 0 where
+  pub wires : ℕ
+  pub uses : ℕ
+
+-- the answer's cases in document 01's terms
+abbrev pub saidWalk : Walked → Said WalkCounts
+saidWalk (Done n t) = result (record { wires = n; uses = t })
+saidWalk DeadEnd = said.refused 11
+saidWalk TooManyUses = said.refused 12
+saidWalk EmptyList = said.refused 13
+
+-- the wires that are made; none where the walk stops
+abbrev pub madeBy : Walked → ℕ
+madeBy (Done n t) = n
+madeBy DeadEnd = 0
+madeBy TooManyUses = 0
+madeBy EmptyList = 0
+
+-- what a walk leaves: its answer, and the contents of the buffers for uses and wire lengths
+pub record WalkOutcome : Type 0 where
+  pub said : Said WalkCounts
+  pub us : List ℕ
+  pub ls : List ℕ
+
+abbrev pub leavesWalk : Walked → List ℕ → List ℕ → WalkOutcome
+leavesWalk r us ls = record { said = saidWalk r; us = us; ls = ls }
+
+-- The wires and their lengths stand in the fronts of the buffers; "entries past a result keep what they held". On 11, 12 and 13 nothing is written.
+abbrev pub walkOutcome : Answer → List ℕ → List ℕ → WalkOutcome
+walkOutcome (wires ws) us ls =
+    record { said = result (record { wires = length ws; uses = length (usesOf ws) }); us = over (usesOf ws) us; ls = over (lengthsOf ws) ls }
+walkOutcome (refused c) us ls = record { said = said.refused c; us = us; ls = ls }

@@ -3,8 +3,9 @@
 use Prim.Native.Nat.{ℕ, zero, suc, _-_}
 use mathlib.Core.Bool.{Bool, true, false}
 use mathlib.Core.List.{List, [], _∷_, _++_}
-use lib.ListN.{length, getD, take, drop}
+use lib.ListN.{length, getD, take}
 use lib.Dec.{eqb}
+use Rattle.lists.specs.Members.{without}
 use Rattle.walk.specs.Walk.{Answer, wires, refused, Move, finish, refuse, fresh, along, side}
 
 -- the first where a test holds, else the second
@@ -54,10 +55,6 @@ filled front t (u ∷ us) = filled front (update t (front u) (pushed (t (front u
 -- A vertex without uses has no list.
 abbrev pub tableOf : (ℕ → ℕ) → List ℕ → Table
 tableOf front us = filled front (λ _. absent) us
-
--- a list without its use at index i
-abbrev pub without : List ℕ → ℕ → List ℕ
-without l i = take i l ++ drop (suc i) l
 
 -- the table from which the use at index i of v's list is taken
 abbrev pub taken : Table → ℕ → ℕ → Table

@@ -1,10 +1,8 @@
 -- `split::split_boundaries_by_divisor` meets its contract. Assumes nothing.
-use Rattle.split.proofs.Demand.{call-keeps}
-use mathlib.Core.Path.{sym, _∙_}
 use native.Mathlib.Omega.{arith}
-use lib.Seq.{length-take-le}
-use Rattle.split.proofs.Accepted.{split-checked}
-use Rattle.split.proofs.Outcome.{walkable, roomy, call-walked, call-cause}
+use Rattle.split_causes.proofs.Accepted.{split-checked}
+use Rattle.split_causes.specs.Causes.{lentSplit}
+use Rattle.split.proofs.Outcome.{checked, face-size, rebuilt-size, stops-size, lent-walk, lent-room, call-told, call-refused}
 use borrow.Author.Needs.{needs}
 use Rattle.split.proofs.split_boundaries_by_divisor.Statement.{statement}
 use Rattle.split.proofs.split_boundaries_by_divisor.Tie as tie
@@ -29,38 +27,51 @@ same-length-4 c = search needs
 
 returns : tie.Need-returns
 returns c =
-    let q = call-cause _ _ _ (c .refusal-of .ensures) (c .before .before .split-cause .ensures (c .before .before .before .before .before .before .before .before .before .before .before .before .before .before .before .before .before .args .surface)) (c .before .if1 .taken) in
-    (q, call-keeps _ _ q)
+    let a = c .before .before .before .before .before .before .before .before .before .before .before .before .before .before .before .before .before .args in
+    let l = lentSplit (a .edge-numbers .now) (a .edge-floats .now) (a .face-uses .now) (a .face-lengths .now) (a .rebuilt-uses .now) (a .rebuilt-lengths .now) (a .divisor .now) (a .points .now) (a .uses .now) (a .lengths .now) (a .vertices) (a .edges) (a .face-wires) (a .rebuilt-wires) (a .count) (a .surface) in
+    call-refused l (c .before .before .split-cause .result) _ (c .refusal-of .ensures) (c .before .before .split-cause .ensures (a .surface)) (c .before .if1 .taken)
 
 total-uses-requires : tie.Need-total-uses-requires
 total-uses-requires c κs =
-    let C = split-checked _ (sym (c .before .split-cause .ensures (c .before .before .before .before .before .before .before .before .before .before .before .before .before .before .before .before .args .surface)) ∙ c .if1 .left) in
+    let a = c .before .before .before .before .before .before .before .before .before .before .before .before .before .before .before .before .args in
+    let l = lentSplit (a .edge-numbers .now) (a .edge-floats .now) (a .face-uses .now) (a .face-lengths .now) (a .rebuilt-uses .now) (a .rebuilt-lengths .now) (a .divisor .now) (a .points .now) (a .uses .now) (a .lengths .now) (a .vertices) (a .edges) (a .face-wires) (a .rebuilt-wires) (a .count) (a .surface) in
+    let C = checked l (c .before .split-cause .result) (c .before .split-cause .ensures (a .surface)) (c .if1 .left) in
     (omega (arith, C .accepted .wires), C .accepted .face-lengths)
 
 total-uses-requires-2 : tie.Need-total-uses-requires-2
 total-uses-requires-2 c κs =
-    let C = split-checked _ (sym (c .before .before .split-cause .ensures (c .before .before .before .before .before .before .before .before .before .before .before .before .before .before .before .before .before .args .surface)) ∙ c .before .if1 .left) in
+    let a = c .before .before .before .before .before .before .before .before .before .before .before .before .before .before .before .before .before .args in
+    let l = lentSplit (a .edge-numbers .now) (a .edge-floats .now) (a .face-uses .now) (a .face-lengths .now) (a .rebuilt-uses .now) (a .rebuilt-lengths .now) (a .divisor .now) (a .points .now) (a .uses .now) (a .lengths .now) (a .vertices) (a .edges) (a .face-wires) (a .rebuilt-wires) (a .count) (a .surface) in
+    let C = checked l (c .before .before .split-cause .result) (c .before .before .split-cause .ensures (a .surface)) (c .before .if1 .left) in
     (omega (arith, C .accepted .wires), C .accepted .rebuilt-lengths)
 
 slice-aggregate-split-checked : tie.Need-slice-aggregate-split-checked
 slice-aggregate-split-checked c =
-    let C = split-checked _ (sym (c .before .before .before .before .before .before .split-cause .ensures (c .before .before .before .before .before .before .before .before .before .before .before .before .before .before .before .before .before .before .before .before .before .args .surface)) ∙ c .before .before .before .before .before .if1 .left) in
-    sym (length-take-le _ _ (rw (c .before .before .before .before .total-uses .ensures) (C .accepted .face-uses)))
+    let a = c .before .before .before .before .before .before .before .before .before .before .before .before .before .before .before .before .before .before .before .before .before .args in
+    let l = lentSplit (a .edge-numbers .now) (a .edge-floats .now) (a .face-uses .now) (a .face-lengths .now) (a .rebuilt-uses .now) (a .rebuilt-lengths .now) (a .divisor .now) (a .points .now) (a .uses .now) (a .lengths .now) (a .vertices) (a .edges) (a .face-wires) (a .rebuilt-wires) (a .count) (a .surface) in
+    let C = checked l (c .before .before .before .before .before .before .split-cause .result) (c .before .before .before .before .before .before .split-cause .ensures (a .surface)) (c .before .before .before .before .before .if1 .left) in
+    face-size l C (c .before .before .before .before .total-uses .result) (c .before .before .before .total-uses2 .result) (c .before .before .before .before .total-uses .ensures) (c .before .before .before .total-uses2 .ensures)
 
 slice-aggregate-split-checked-2 : tie.Need-slice-aggregate-split-checked-2
 slice-aggregate-split-checked-2 c =
-    let C = split-checked _ (sym (c .before .before .before .before .before .before .before .split-cause .ensures (c .before .before .before .before .before .before .before .before .before .before .before .before .before .before .before .before .before .before .before .before .before .before .args .surface)) ∙ c .before .before .before .before .before .before .if1 .left) in
-    sym (length-take-le _ _ (rw (c .before .before .before .before .total-uses2 .ensures) (C .accepted .rebuilt-uses)))
+    let a = c .before .before .before .before .before .before .before .before .before .before .before .before .before .before .before .before .before .before .before .before .before .before .args in
+    let l = lentSplit (a .edge-numbers .now) (a .edge-floats .now) (a .face-uses .now) (a .face-lengths .now) (a .rebuilt-uses .now) (a .rebuilt-lengths .now) (a .divisor .now) (a .points .now) (a .uses .now) (a .lengths .now) (a .vertices) (a .edges) (a .face-wires) (a .rebuilt-wires) (a .count) (a .surface) in
+    let C = checked l (c .before .before .before .before .before .before .before .split-cause .result) (c .before .before .before .before .before .before .before .split-cause .ensures (a .surface)) (c .before .before .before .before .before .before .if1 .left) in
+    rebuilt-size l C (c .before .before .before .before .before .total-uses .result) (c .before .before .before .before .total-uses2 .result) (c .before .before .before .before .before .total-uses .ensures) (c .before .before .before .before .total-uses2 .ensures)
 
 slice-aggregate-split-checked-3 : tie.Need-slice-aggregate-split-checked-3
 slice-aggregate-split-checked-3 c =
-    let C = split-checked _ (sym (c .before .before .before .before .before .before .before .before .split-cause .ensures (c .before .before .before .before .before .before .before .before .before .before .before .before .before .before .before .before .before .before .before .before .before .before .before .args .surface)) ∙ c .before .before .before .before .before .before .before .if1 .left) in
-    sym (length-take-le _ _ (C .accepted .stops-lent))
+    let a = c .before .before .before .before .before .before .before .before .before .before .before .before .before .before .before .before .before .before .before .before .before .before .before .args in
+    let l = lentSplit (a .edge-numbers .now) (a .edge-floats .now) (a .face-uses .now) (a .face-lengths .now) (a .rebuilt-uses .now) (a .rebuilt-lengths .now) (a .divisor .now) (a .points .now) (a .uses .now) (a .lengths .now) (a .vertices) (a .edges) (a .face-wires) (a .rebuilt-wires) (a .count) (a .surface) in
+    let C = checked l (c .before .before .before .before .before .before .before .before .split-cause .result) (c .before .before .before .before .before .before .before .before .split-cause .ensures (a .surface)) (c .before .before .before .before .before .before .before .if1 .left) in
+    stops-size l C
 
 split-checked-requires : tie.Need-split-checked-requires
 split-checked-requires c κs =
-    let C = split-checked _ (sym (c .before .before .before .before .before .before .before .before .before .before .split-cause .ensures (c .before .before .before .before .before .before .before .before .before .before .before .before .before .before .before .before .before .before .before .before .before .before .before .before .before .args .surface)) ∙ c .before .before .before .before .before .before .before .before .before .if1 .left) in
-    (rw (c .before .before .before .before .before .before .before .before .total-uses .ensures, c .before .before .before .before .before .before .before .total-uses2 .ensures) (walkable _ C), rw (c .before .before .before .before .before .before .before .total-uses2 .ensures) (roomy _ C))
+    let a = c .before .before .before .before .before .before .before .before .before .before .before .before .before .before .before .before .before .before .before .before .before .before .before .before .before .args in
+    let l = lentSplit (a .edge-numbers .now) (a .edge-floats .now) (a .face-uses .now) (a .face-lengths .now) (a .rebuilt-uses .now) (a .rebuilt-lengths .now) (a .divisor .now) (a .points .now) (a .uses .now) (a .lengths .now) (a .vertices) (a .edges) (a .face-wires) (a .rebuilt-wires) (a .count) (a .surface) in
+    let C = checked l (c .before .before .before .before .before .before .before .before .before .before .split-cause .result) (c .before .before .before .before .before .before .before .before .before .before .split-cause .ensures (a .surface)) (c .before .before .before .before .before .before .before .before .before .if1 .left) in
+    (lent-walk l C (c .before .before .before .before .before .before .before .before .total-uses .result) (c .before .before .before .before .before .before .before .total-uses2 .result) (c .before .before .before .before .before .before .before .before .total-uses .ensures) (c .before .before .before .before .before .before .before .total-uses2 .ensures), lent-room l C (c .before .before .before .before .before .before .before .before .total-uses .result) (c .before .before .before .before .before .before .before .total-uses2 .result) (c .before .before .before .before .before .before .before .before .total-uses .ensures) (c .before .before .before .before .before .before .before .total-uses2 .ensures))
 
 same-length-5 : tie.Need-same-length-5
 same-length-5 c = search needs
@@ -76,10 +87,9 @@ same-length-8 c = search needs
 
 returns-2 : tie.Need-returns-2
 returns-2 c =
-    let z = sym (c .before .before .before .before .before .before .before .before .before .before .before .before .before .before .before .before .before .before .before .split-cause .ensures (c .before .before .before .before .before .before .before .before .before .before .before .before .before .before .before .before .before .before .before .before .before .before .before .before .before .before .before .before .before .before .before .before .before .before .args .surface)) ∙ c .before .before .before .before .before .before .before .before .before .before .before .before .before .before .before .before .before .before .if1 .left in
-    let C = split-checked _ z in
-    let q = call-walked _ C _ z (c .before .before .before .before .before .before .before .before .split-checked .ensures ∙ rw (c .before .before .before .before .before .before .before .before .before .before .before .before .before .before .before .before .before .total-uses .ensures, c .before .before .before .before .before .before .before .before .before .before .before .before .before .before .before .before .total-uses2 .ensures)) in
-    (q, call-keeps _ _ q)
+    let a = c .before .before .before .before .before .before .before .before .before .before .before .before .before .before .before .before .before .before .before .before .before .before .before .before .before .before .before .before .before .before .before .before .before .before .args in
+    let l = lentSplit (a .edge-numbers .now) (a .edge-floats .now) (a .face-uses .now) (a .face-lengths .now) (a .rebuilt-uses .now) (a .rebuilt-lengths .now) (a .divisor .now) (a .points .now) (a .uses .now) (a .lengths .now) (a .vertices) (a .edges) (a .face-wires) (a .rebuilt-wires) (a .count) (a .surface) in
+    call-told l (c .before .before .before .before .before .before .before .before .before .before .before .before .before .before .before .before .before .before .before .split-cause .result) (c .before .before .before .before .before .before .before .before .before .before .before .before .before .before .before .before .before .before .before .split-cause .ensures (a .surface)) (c .before .before .before .before .before .before .before .before .before .before .before .before .before .before .before .before .before .before .if1 .left) (c .before .before .before .before .before .before .before .before .before .before .before .before .before .before .before .before .before .total-uses .result) (c .before .before .before .before .before .before .before .before .before .before .before .before .before .before .before .before .total-uses2 .result) (c .before .before .before .before .before .before .before .before .before .before .before .before .before .before .before .before .before .total-uses .ensures) (c .before .before .before .before .before .before .before .before .before .before .before .before .before .before .before .before .total-uses2 .ensures) _ (c .before .before .before .before .before .before .before .before .split-checked .ensures)
 
 pub split-boundaries-by-divisor-spec : {M : Type 1} → statement M
 split-boundaries-by-divisor-spec =

@@ -26,39 +26,39 @@ index-requires : tie.Need-index-requires Inv-loop μ-loop
 index-requires c κs = search needs
 
 mul-copy : tie.Need-mul-copy Inv-loop μ-loop
-mul-copy c = omega (arith, c .before .before .before .loop .inv)
+mul-copy c = omega (arith, c .before .before .before .loop .inv .at-le)
 
 sub-copy : tie.Need-sub-copy Inv-loop μ-loop
-sub-copy c = omega (arith, c .before .before .before .loop .inv)
+sub-copy c = omega (arith, c .before .before .before .loop .inv .at-le)
 
 part-copy-start : tie.Need-part-copy-start Inv-loop μ-loop
-part-copy-start c = omega (arith, c .before .before .before .loop .inv)
+part-copy-start c = omega (arith, c .before .before .before .loop .inv .at-le)
 
 part-copy-end : tie.Need-part-copy-end Inv-loop μ-loop
-part-copy-end c = omega (arith, c .before .before .before .loop .inv)
+part-copy-end c = omega (arith, c .before .before .before .loop .inv .at-le)
 
 mul-copy-2 : tie.Need-mul-copy-2 Inv-loop μ-loop
-mul-copy-2 c = omega (arith, c .before .before .before .before .loop .inv)
+mul-copy-2 c = omega (arith, c .before .before .before .before .loop .inv .at-le, c .before .before .before .before .loop .inv .same)
 
 sub-copy-2 : tie.Need-sub-copy-2 Inv-loop μ-loop
-sub-copy-2 c = omega (arith, c .before .before .before .before .loop .inv)
+sub-copy-2 c = omega (arith, c .before .before .before .before .loop .inv .at-le, c .before .before .before .before .loop .inv .same)
 
 part-copy-start-2 : tie.Need-part-copy-start-2 Inv-loop μ-loop
-part-copy-start-2 c = omega (arith, c .before .before .before .before .loop .inv)
+part-copy-start-2 c = omega (arith, c .before .before .before .before .loop .inv .at-le, c .before .before .before .before .loop .inv .same)
 
 part-copy-end-2 : tie.Need-part-copy-end-2 Inv-loop μ-loop
-part-copy-end-2 c = omega (arith, c .before .before .before .before .loop .inv)
+part-copy-end-2 c = omega (arith, c .before .before .before .before .loop .inv .at-le, c .before .before .before .before .loop .inv .same)
 
 copy-requires : tie.Need-copy-requires Inv-loop μ-loop
 copy-requires c κs =
     let l = c .before .before .before .before .before .loop in
     let room = total-room (c .before .before .before .before .before .before .before .before .before .args .sizes .now) (l .k) (c .before .before .before .before .before .before .before .before .before .args .n) (omega arith) (omega arith) in
-    simp (length-take, length-drop) (omega (arith, l .inv, c .before .before .index .ensures), omega (arith, l .inv, c .before .before .index .ensures))
+    simp (length-take, length-drop) (omega (arith, room, l .inv .at-is, c .before .before .index .ensures), omega (arith, room, l .inv .at-is, l .inv .same, c .before .before .index .ensures))
 
 add-at : tie.Need-add-at Inv-loop μ-loop
 add-at c =
     let l = c .before .before .before .before .before .before .before .before .loop in
-    omega (arith, l .inv, c .before .before .before .before .before .index .ensures, total-room (c .before .before .before .before .before .before .before .before .before .before .before .before .args .sizes .now) (l .k) (c .before .before .before .before .before .before .before .before .before .before .before .before .args .n) (omega arith) (omega arith))
+    omega (arith, l .inv .at-is, c .before .before .before .before .before .index .ensures, total-room (c .before .before .before .before .before .before .before .before .before .before .before .before .args .sizes .now) (l .k) (c .before .before .before .before .before .before .before .before .before .before .before .before .args .n) (omega arith) (omega arith))
 
 add-k : tie.Need-add-k Inv-loop μ-loop
 add-k c = omega arith
@@ -72,7 +72,7 @@ loop-again c =
     copied-turn (c .before .before .before .before .before .before .before .before .loop .inv) (c .before .before .before .before .before .before .before .loop-test .taken) (s .0) (s .1) (s .2) (c .before .before .before .before .before .index .ensures) (c .before .before .copy .ensures)
 
 same-length : tie.Need-same-length Inv-loop μ-loop
-same-length c = omega (arith, c .before .loop .inv)
+same-length c = c .before .loop .inv .same
 
 returns : tie.Need-returns Inv-loop μ-loop
 returns c = copied-done (c .before .loop .inv) (c .loop-test .left)

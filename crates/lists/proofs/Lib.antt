@@ -1,0 +1,3 @@
+-- The laws of the lists of uses by vertex.
+pub mod Members
+pub mod Chains

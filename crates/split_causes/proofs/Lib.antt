@@ -1,0 +1,2 @@
+-- What a split without a cause before the walk is lent.
+pub mod Accepted

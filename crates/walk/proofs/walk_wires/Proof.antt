@@ -1,0 +1,63 @@
+-- `walk::walk_wires` meets its contract. Assumes nothing.
+use mathlib.Core.Path.{sym}
+use native.Mathlib.Omega.{arith}
+use borrow.Author.Needs.{needs}
+use Rattle.walk.proofs.Storing.{traced-few, left}
+use Rattle.walk.proofs.walk_wires.Statement.{statement}
+use Rattle.walk.proofs.walk_wires.Tie as tie
+
+construct-boundaries-requires : tie.Need-construct-boundaries-requires
+construct-boundaries-requires c κs = search needs
+
+made-by-requires : tie.Need-made-by-requires
+made-by-requires c κs = search needs
+
+slice-aggregate-copy-wires : tie.Need-slice-aggregate-copy-wires
+slice-aggregate-copy-wires c = sym (c .before .before .construct-boundaries .ensures .1 .0)
+
+slice-aggregate-copy-wires-2 : tie.Need-slice-aggregate-copy-wires-2
+slice-aggregate-copy-wires-2 c = sym (c .before .before .before .construct-boundaries .ensures .1 .1)
+
+copy-wires-requires : tie.Need-copy-wires-requires
+copy-wires-requires c κs =
+    let w = c .before .before .before .before .construct-boundaries in
+    let p = c .before .before .before .before .before .before .before .before .before .before .before .before .before .pre in
+    let d = traced-few _ _ _ _ (w .result) (w .ensures .0) in
+    rw (c .before .before .before .made-by .ensures) (omega (arith, d, w .ensures .1, p .0 .few), omega (arith, d, w .ensures .1, p .0 .few), omega (arith, d, p .1))
+
+slice-aggregate-copy : tie.Need-slice-aggregate-copy
+slice-aggregate-copy c = sym (c .before .before .before .before .before .before .before .before .construct-boundaries .ensures .1 .1)
+
+copy-requires : tie.Need-copy-requires
+copy-requires c κs =
+    let w = c .before .before .before .before .before .before .before .before .before .construct-boundaries in
+    let p = c .before .before .before .before .before .before .before .before .before .before .before .before .before .before .before .before .before .before .pre in
+    let d = traced-few _ _ _ _ (w .result) (w .ensures .0) in
+    rw (c .before .before .before .before .before .before .before .before .made-by .ensures) (omega (arith, d, w .ensures .1, p .0 .few), omega (arith, d, p .1))
+
+same-length : tie.Need-same-length
+same-length c = search needs
+
+same-length-2 : tie.Need-same-length-2
+same-length-2 c = search needs
+
+returns : tie.Need-returns
+returns c =
+    let w = c .before .before .before .before .before .before .before .before .before .before .before .before .construct-boundaries in
+    let n = c .before .before .before .before .before .before .before .before .before .before .before .made-by .ensures in
+    left _ _ _ _ _ _ _ _ (w .result) (w .ensures .0) (c .before .before .before .before .before .before .before .before .before .before .before .before .before .before .before .before .before .before .before .before .before .pre .0 .few) (rw n at (c .before .before .before .before .before .before .before .copy-wires .ensures)) (rw n at (c .before .before .copy .ensures))
+
+pub walk-wires-spec : {M : Type 1} → statement M
+walk-wires-spec =
+    tie.close
+    (tie.spec
+    construct-boundaries-requires
+    made-by-requires
+    slice-aggregate-copy-wires
+    slice-aggregate-copy-wires-2
+    copy-wires-requires
+    slice-aggregate-copy
+    copy-requires
+    same-length
+    same-length-2
+    returns)
