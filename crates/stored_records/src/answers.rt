@@ -1,0 +1,79 @@
+// The answer of a call as the list has it, and its comparison.
+ghost use Rattle.stored.specs.Compared.{Remembers};
+ghost use Rattle.stored_records.specs.Fits.{PairFits};
+use crate::tables;
+use compress::Refusal;
+use stored::Place;
+use tables::Pair;
+
+// The answer "none" of a call.
+const NONE: u64 = u64::MAX;
+
+// 0 with up to three values, or "none" or the number of the refusal with zeros.
+pub struct Answer {
+    pub number: u64,
+    pub first: u64,
+    pub second: u64,
+    pub third: u64,
+}
+
+fn no_result(number: u64) -> Answer {
+    Answer {
+        number,
+        first: 0,
+        second: 0,
+        third: 0,
+    }
+}
+
+// The answer "none".
+pub fn none() -> Answer {
+    no_result(NONE)
+}
+
+pub fn refused(r: Refusal) -> Answer {
+    no_result(compress::refusal_number(r) as u64)
+}
+
+// The results of a call.
+pub fn told(first: u64, second: u64, third: u64) -> Answer {
+    Answer {
+        number: 0,
+        first,
+        second,
+        third,
+    }
+}
+
+// Compares an answer that has one value.
+pub fn compare_one(buf: &[u8], p: Place, a: Answer) -> Place
+    ensures { λ r. ⌜ Remembers p r ⌝ }
+{
+    let number = stored::compare(buf, p, a.number);
+    stored::compare(buf, number, a.first)
+}
+
+// Compares an answer that has two values.
+pub fn compare_two(buf: &[u8], p: Place, a: Answer) -> Place
+    ensures { λ r. ⌜ Remembers p r ⌝ }
+{
+    let first = compare_one(buf, p, a);
+    stored::compare(buf, first, a.second)
+}
+
+// Compares an answer that has three values.
+pub fn compare_three(buf: &[u8], p: Place, a: Answer) -> Place
+    ensures { λ r. ⌜ Remembers p r ⌝ }
+{
+    let second = compare_two(buf, p, a);
+    stored::compare(buf, second, a.third)
+}
+
+// Compares an answer that has one value, and the two buffers of numbers that were lent to be written to.
+pub fn compare_left(buf: &[u8], p: Place, a: Answer, left: Pair) -> Place
+    requires { ⌜ PairFits left ⌝ }
+    ensures { λ r. ⌜ Remembers p r ⌝ }
+{
+    let told = compare_one(buf, p, a);
+    tables::compare_pair(buf, told, left)
+}

@@ -1,0 +1,116 @@
+// The buffers that calls share: a table of rows, two buffers of numbers, and the tables and wires of a shell.
+ghost use mathlib.Core.Path.{_≡_};
+ghost use Rattle.stored.specs.Compared.{Remembers};
+ghost use Rattle.stored_records.specs.Fits.{PairFits, ShellFits, TableFits};
+use crate::cells;
+use cells::Floats;
+use cells::Numbers;
+use stored::Place;
+
+// A table of rows: its numbers, and its floats.
+pub struct Table {
+    pub numbers: Numbers,
+    pub floats: Floats,
+}
+
+// Two buffers of numbers, as the uses and the lengths of wires.
+pub struct Pair {
+    pub first: Numbers,
+    pub second: Numbers,
+}
+
+// The two tables of a shell, and its wires or two stretches of uses.
+pub struct Shell {
+    pub vertices: Table,
+    pub edges: Table,
+    pub wires: Pair,
+}
+
+// A table from the list, and the place past it.
+pub struct TableRead {
+    pub table: Table,
+    pub place: Place,
+}
+
+// Two buffers of numbers from the list, and the place past them.
+pub struct PairRead {
+    pub pair: Pair,
+    pub place: Place,
+}
+
+// A shell from the list, and the place past it.
+pub struct ShellRead {
+    pub shell: Shell,
+    pub place: Place,
+}
+
+// ---- read from the list
+
+pub fn read_table(buf: &[u8], p: Place) -> TableRead
+    ensures { λ r. ⌜ TableFits (r .table) × (r .place .«is_same» ≡ p .«is_same») ⌝ }
+{
+    let n = cells::read_numbers(buf, p);
+    let f = cells::read_floats(buf, n.place);
+    let numbers = n.numbers;
+    let floats = f.floats;
+    let place = f.place;
+    let table = Table { numbers, floats };
+    TableRead { table, place }
+}
+
+pub fn read_pair(buf: &[u8], p: Place) -> PairRead
+    ensures { λ r. ⌜ PairFits (r .pair) × (r .place .«is_same» ≡ p .«is_same») ⌝ }
+{
+    let a = cells::read_numbers(buf, p);
+    let b = cells::read_numbers(buf, a.place);
+    let first = a.numbers;
+    let second = b.numbers;
+    let place = b.place;
+    let pair = Pair { first, second };
+    PairRead { pair, place }
+}
+
+pub fn read_shell(buf: &[u8], p: Place) -> ShellRead
+    ensures { λ r. ⌜ ShellFits (r .shell) × (r .place .«is_same» ≡ p .«is_same») ⌝ }
+{
+    let v = read_table(buf, p);
+    let e = read_table(buf, v.place);
+    let w = read_pair(buf, e.place);
+    let vertices = v.table;
+    let edges = e.table;
+    let wires = w.pair;
+    let place = w.place;
+    let shell = Shell {
+        vertices,
+        edges,
+        wires,
+    };
+    ShellRead { shell, place }
+}
+
+// ---- compared with the list
+
+pub fn compare_table(buf: &[u8], p: Place, t: Table) -> Place
+    requires { ⌜ TableFits t ⌝ }
+    ensures { λ r. ⌜ Remembers p r ⌝ }
+{
+    let past = cells::compare_numbers(buf, p, t.numbers);
+    cells::compare_floats(buf, past, t.floats)
+}
+
+pub fn compare_pair(buf: &[u8], p: Place, w: Pair) -> Place
+    requires { ⌜ PairFits w ⌝ }
+    ensures { λ r. ⌜ Remembers p r ⌝ }
+{
+    let past = cells::compare_numbers(buf, p, w.first);
+    cells::compare_numbers(buf, past, w.second)
+}
+
+pub fn compare_shell(buf: &[u8], p: Place, s: Shell) -> Place
+    requires { ⌜ ShellFits s ⌝ }
+    ensures { λ r. ⌜ Remembers p r ⌝ }
+{
+    let vertices = compare_table(buf, p, s.vertices);
+    let edges = compare_table(buf, vertices, s.edges);
+    compare_pair(buf, edges, s.wires)
+}
