@@ -1,4 +1,6 @@
 // The answer of a call as the list has it, and its comparison.
+ghost use mathlib.Core.Path.{_≡_};
+ghost use Rattle.compress.specs.Refusals.{refusalNumber};
 ghost use Rattle.stored.specs.Compared.{Remembers};
 ghost use Rattle.stored_records.specs.Fits.{PairFits};
 use crate::tables;
@@ -17,7 +19,9 @@ pub struct Answer {
     pub third: u64,
 }
 
-fn no_result(number: u64) -> Answer {
+fn no_result(number: u64) -> Answer
+    ensures { λ r. ⌜ r ≡ record { number = number; first = 0; second = 0; third = 0 } ⌝ }
+{
     Answer {
         number,
         first: 0,
@@ -27,16 +31,22 @@ fn no_result(number: u64) -> Answer {
 }
 
 // The answer "none".
-pub fn none() -> Answer {
+pub fn none() -> Answer
+    ensures { λ r. ⌜ r ≡ record { number = 18446744073709551615; first = 0; second = 0; third = 0 } ⌝ }
+{
     no_result(NONE)
 }
 
-pub fn refused(r: Refusal) -> Answer {
+pub fn refused(r: Refusal) -> Answer
+    ensures { λ a. ⌜ a ≡ record { number = refusalNumber r; first = 0; second = 0; third = 0 } ⌝ }
+{
     no_result(compress::refusal_number(r) as u64)
 }
 
 // The results of a call.
-pub fn told(first: u64, second: u64, third: u64) -> Answer {
+pub fn told(first: u64, second: u64, third: u64) -> Answer
+    ensures { λ r. ⌜ r ≡ record { number = 0; first = first; second = second; third = third } ⌝ }
+{
     Answer {
         number: 0,
         first,

@@ -3,6 +3,7 @@ ghost use mathlib.Core.Path.{_≡_};
 ghost use Prim.Native.Nat.{_≤_};
 ghost use lib.Ieee.{binary64, nanBits};
 ghost use Rattle.stored.specs.Compared.{Remembers, Tested};
+ghost use Rattle.stored_records.specs.Fits.{FloatsFit, NumbersFit};
 ghost use Rattle.stored_records.specs.Floats.{floatOf, hasPattern};
 use stored::MOST;
 use stored::Place;
@@ -123,7 +124,7 @@ pub fn next_number(buf: &[u8], p: Place) -> Number
 // Reads a buffer of so many numbers.
 pub fn fill_numbers(buf: &[u8], p: Place, count: usize) -> NumbersRead
     requires { ⌜ count ≤ 64 ⌝ }
-    ensures { λ r. ⌜ (r .numbers .count ≡ count) × (r .place .«is_same» ≡ p .«is_same») ⌝ }
+    ensures { λ r. ⌜ NumbersFit (r .numbers) × (r .numbers .count ≡ count) × (r .place .«is_same» ≡ p .«is_same») ⌝ }
 {
     let mut cells = [0u32; MOST];
     let mut place = p;
@@ -141,7 +142,7 @@ pub fn fill_numbers(buf: &[u8], p: Place, count: usize) -> NumbersRead
 // Reads a buffer of so many floats.
 pub fn fill_floats(buf: &[u8], p: Place, count: usize) -> FloatsRead
     requires { ⌜ count ≤ 64 ⌝ }
-    ensures { λ r. ⌜ (r .floats .count ≡ count) × (r .place .«is_same» ≡ p .«is_same») ⌝ }
+    ensures { λ r. ⌜ FloatsFit (r .floats) × (r .floats .count ≡ count) × (r .place .«is_same» ≡ p .«is_same») ⌝ }
 {
     let mut cells = [0.0f64; MOST];
     let mut place = p;
@@ -158,7 +159,7 @@ pub fn fill_floats(buf: &[u8], p: Place, count: usize) -> FloatsRead
 
 // Reads a length and as many numbers.
 pub fn read_numbers(buf: &[u8], p: Place) -> NumbersRead
-    ensures { λ r. ⌜ (r .numbers .count ≤ 64) × (r .place .«is_same» ≡ p .«is_same») ⌝ }
+    ensures { λ r. ⌜ NumbersFit (r .numbers) × (r .place .«is_same» ≡ p .«is_same») ⌝ }
 {
     let n = stored::next_length(buf, p);
     fill_numbers(buf, n.place, n.count)
@@ -166,7 +167,7 @@ pub fn read_numbers(buf: &[u8], p: Place) -> NumbersRead
 
 // Reads a length and as many floats.
 pub fn read_floats(buf: &[u8], p: Place) -> FloatsRead
-    ensures { λ r. ⌜ (r .floats .count ≤ 64) × (r .place .«is_same» ≡ p .«is_same») ⌝ }
+    ensures { λ r. ⌜ FloatsFit (r .floats) × (r .place .«is_same» ≡ p .«is_same») ⌝ }
 {
     let n = stored::next_length(buf, p);
     fill_floats(buf, n.place, n.count)
@@ -174,7 +175,7 @@ pub fn read_floats(buf: &[u8], p: Place) -> FloatsRead
 
 // Compares a buffer of numbers with the list.
 pub fn compare_numbers(buf: &[u8], p: Place, numbers: Numbers) -> Place
-    requires { ⌜ numbers .count ≤ 64 ⌝ }
+    requires { ⌜ NumbersFit numbers ⌝ }
     ensures { λ r. ⌜ Remembers p r ⌝ }
 {
     let cells = numbers.cells;
@@ -189,7 +190,7 @@ pub fn compare_numbers(buf: &[u8], p: Place, numbers: Numbers) -> Place
 
 // Compares a buffer of floats with the list.
 pub fn compare_floats(buf: &[u8], p: Place, floats: Floats) -> Place
-    requires { ⌜ floats .count ≤ 64 ⌝ }
+    requires { ⌜ FloatsFit floats ⌝ }
     ensures { λ r. ⌜ Remembers p r ⌝ }
 {
     let cells = floats.cells;

@@ -5,6 +5,7 @@ ghost use Rattle.stored_records.specs.Fits.{PairFits, ShellFits, TableFi
 use crate::cells;
 use cells::Floats;
 use cells::Numbers;
+use stored::MOST;
 use stored::Place;
 
 // A table of rows: its numbers, and its floats.
@@ -26,6 +27,13 @@ pub struct Shell {
     pub wires: Pair,
 }
 
+// How many vertices and edges a call was told, and the place past them.
+pub struct Counts {
+    pub vertices: usize,
+    pub edges: usize,
+    pub place: Place,
+}
+
 // A table from the list, and the place past it.
 pub struct TableRead {
     pub table: Table,
@@ -45,6 +53,19 @@ pub struct ShellRead {
 }
 
 // ---- read from the list
+
+pub fn read_counts(buf: &[u8], p: Place) -> Counts
+    ensures { λ r. ⌜ r .place .«is_same» ≡ p .«is_same» ⌝ }
+{
+    let vertices = stored::next(buf, p);
+    let edges = stored::next(buf, vertices.place);
+    let place = edges.place;
+    Counts {
+        vertices: vertices.bits as usize,
+        edges: edges.bits as usize,
+        place,
+    }
+}
 
 pub fn read_table(buf: &[u8], p: Place) -> TableRead
     ensures { λ r. ⌜ TableFits (r .table) × (r .place .«is_same» ≡ p .«is_same») ⌝ }
@@ -86,6 +107,46 @@ pub fn read_shell(buf: &[u8], p: Place) -> ShellRead
         wires,
     };
     ShellRead { shell, place }
+}
+
+// ---- after a call
+
+// The table with other cells in its buffers.
+pub fn table_left(t: Table, numbers: [u32; MOST], floats: [f64; MOST]) -> Table
+    requires { ⌜ TableFits t ⌝ }
+    ensures { λ r. ⌜ TableFits r × (r .numbers .count ≡ t .numbers .count) × (r .floats .count ≡ t .floats .count) ⌝ }
+{
+    let n = Numbers {
+        cells: numbers,
+        count: t.numbers.count,
+    };
+    let f = Floats {
+        cells: floats,
+        count: t.floats.count,
+    };
+    Table {
+        numbers: n,
+        floats: f,
+    }
+}
+
+// The two buffers with other cells.
+pub fn pair_left(w: Pair, first: [u32; MOST], second: [u32; MOST]) -> Pair
+    requires { ⌜ PairFits w ⌝ }
+    ensures { λ r. ⌜ PairFits r × (r .first .count ≡ w .first .count) × (r .second .count ≡ w .second .count) ⌝ }
+{
+    let a = Numbers {
+        cells: first,
+        count: w.first.count,
+    };
+    let b = Numbers {
+        cells: second,
+        count: w.second.count,
+    };
+    Pair {
+        first: a,
+        second: b,
+    }
 }
 
 // ---- compared with the list

@@ -1,0 +1,16 @@
+-- `replay_cutting::compare` meets its contract: a difference met is not forgotten. Assumes nothing.
+use borrow.Author.Needs.{needs}
+use Rattle.replay_cutting.proofs.compare.Statement.{statement}
+use Rattle.replay_cutting.proofs.compare.Tie as tie
+
+compare-three-requires : tie.Need-compare-three-requires
+compare-three-requires c κs = search needs
+
+compare-shell-requires : tie.Need-compare-shell-requires
+compare-shell-requires c κs = search needs
+
+returns : tie.Need-returns
+returns c = λ h. c .before .compare-three .ensures (c .compare-shell .ensures h)
+
+pub compare-spec : {M : Type 1} → statement M
+compare-spec = tie.close (tie.spec compare-three-requires compare-shell-requires returns)
