@@ -19,6 +19,12 @@ pub struct Answer {
     pub third: u64,
 }
 
+// What a call answered, and the two buffers of numbers that were lent to be written to, as the call left them.
+pub struct Left {
+    pub answer: Answer,
+    pub buffers: Pair,
+}
+
 fn no_result(number: u64) -> Answer
     ensures { λ r. ⌜ r ≡ record { number = number; first = 0; second = 0; third = 0 } ⌝ }
 {
@@ -79,11 +85,11 @@ pub fn compare_three(buf: &[u8], p: Place, a: Answer) -> Place
     stored::compare(buf, second, a.third)
 }
 
-// Compares an answer that has one value, and the two buffers of numbers that were lent to be written to.
-pub fn compare_left(buf: &[u8], p: Place, a: Answer, left: Pair) -> Place
-    requires { ⌜ PairFits left ⌝ }
+// Compares an answer that has one value, and the two buffers.
+pub fn compare_left(buf: &[u8], p: Place, left: Left) -> Place
+    requires { ⌜ PairFits (left .buffers) ⌝ }
     ensures { λ r. ⌜ Remembers p r ⌝ }
 {
-    let told = compare_one(buf, p, a);
-    tables::compare_pair(buf, told, left)
+    let told = compare_one(buf, p, left.answer);
+    tables::compare_pair(buf, told, left.buffers)
 }

@@ -51,13 +51,13 @@ cut-edge-by-intersections-requires : tie.Need-cut-edge-by-intersections-requires
 cut-edge-by-intersections-requires c κs = search needs
 
 shell-left-requires : tie.Need-shell-left-requires
-shell-left-requires c κs = search needs
+shell-left-requires c κs = c .before .before .before .before .before .before .before .before .before .before .before .before .before .before .before .before .before .before .before .before .before .pre .0
 
 answer-of-requires : tie.Need-answer-of-requires
 answer-of-requires c κs = search needs
 
 returns : tie.Need-returns
-returns c = search needs
+returns c = c .before .shell-left .ensures
 
 pub cut-spec : {M : Type 1} → statement M
 cut-spec =

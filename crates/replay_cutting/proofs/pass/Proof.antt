@@ -45,13 +45,13 @@ split-closed-edges-requires : tie.Need-split-closed-edges-requires
 split-closed-edges-requires c κs = search needs
 
 shell-left-requires : tie.Need-shell-left-requires
-shell-left-requires c κs = search needs
+shell-left-requires c κs = c .before .before .before .before .before .before .before .before .before .before .before .before .before .before .before .before .before .before .before .pre
 
 answer-of-requires : tie.Need-answer-of-requires
 answer-of-requires c κs = search needs
 
 returns : tie.Need-returns
-returns c = search needs
+returns c = c .before .shell-left .ensures
 
 pub pass-spec : {M : Type 1} → statement M
 pass-spec =
