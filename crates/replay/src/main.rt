@@ -4,17 +4,12 @@
 // call was handed, and what it answered and left. The length of a buffer stands before its cells; in the records of
 // split_closed_edges the lengths of all six stand before the cells of all. The number 0 ends the list. Behind it stands a second
 // list, of altered records: in each, one word of what the call answered and left is another, so none of them is the same.
-mod cutting;
-mod dividing;
-mod joining;
-mod numbers;
-mod pass;
-mod search;
-mod sorting;
-
+ghost use Rattle.stored.specs.Compared.{Remembers};
 use libc::STDOUT_FILENO;
-use stored::words;
-use words::Place;
+use replay_numbers::sorting;
+use replay_wires::dividing;
+use replay_wires::joining;
+use stored::Place;
 
 // How many tallies there are: one for all altered records, and one for each kind of call, in the place of its number.
 const TALLIES: usize = 11;
@@ -54,7 +49,7 @@ fn counted(t: Tally, is_same: bool) -> Tally {
 fn begun() -> Run {
     let tallies = [Tally { calls: 0, same: 0 }; TALLIES];
     Run {
-        place: words::begin(),
+        place: stored::begin(),
         record: 1,
         tallies,
         is_altered: false,
@@ -102,19 +97,21 @@ fn done(r: Run, tally: usize, at: Place) -> Run {
 }
 
 // Replays the call with this number. A list with any other number is damaged.
-fn replay(buf: &mut [u8], number: u64, p: Place) -> Place {
+fn replay(buf: &[u8], number: u64, p: Place) -> Place
+    ensures { λ r. ⌜ Remembers p r ⌝ }
+{
     match number {
-        1 => pass::replay(buf, p),
-        2 => numbers::replay_unwrap(buf, p),
-        3 => numbers::replay_copy(buf, p),
-        4 => numbers::replay_kind(buf, p),
-        5 => sorting::replay(buf, p),
-        6 => search::replay_correction(buf, p),
-        7 => search::replay_divisor(buf, p),
-        8 => cutting::replay(buf, p),
-        9 => joining::replay(buf, p),
-        10 => dividing::replay(buf, p),
-        _ => words::damaged(p),
+        1 => replay_cutting::replay_pass(buf, p),
+        2 => replay_numbers::replay_unwrap(buf, p),
+        3 => replay_numbers::replay_copy(buf, p),
+        4 => replay_numbers::replay_kind(buf, p),
+        5 => sorting::replay_sort(buf, p),
+        6 => replay_search::replay_correction(buf, p),
+        7 => replay_search::replay_divisor(buf, p),
+        8 => replay_cutting::replay_cut(buf, p),
+        9 => joining::replay_join(buf, p),
+        10 => dividing::replay_split(buf, p),
+        _ => stored::damaged(p),
     }
 }
 
@@ -123,9 +120,9 @@ fn tally_of(number: u64, is_altered: bool) -> usize {
     if is_altered { ALTERED } else { number as usize }
 }
 
-// Reads one record and replays it. The run stops behind the second list, and where a list is damaged.
-fn step(buf: &mut [u8], r: Run) -> Run {
-    let call = words::next(buf, words::at_record(r.place));
+// Reads the record at a place and replays it. The run stops behind the second list, and where a list is damaged.
+fn record(buf: &[u8], r: Run, p: Place) -> Run {
+    let call = stored::next(buf, p);
     let number = call.bits;
     let place = call.place;
     if number == 0 {
@@ -139,6 +136,12 @@ fn step(buf: &mut [u8], r: Run) -> Run {
         return done(r, tally_of(number, r.is_altered), at);
     }
     stopped(r, at)
+}
+
+// Reads on in the list, and replays the next record.
+fn step(buf: &mut [u8], r: Run) -> Run {
+    let place = stored::refilled(buf, stored::at_record(r.place));
+    record(buf, r, place)
 }
 
 // Replays both lists. A proved loop has to end, and nothing says that a list does, so the loop counts its turns down from a
