@@ -16,14 +16,14 @@ fn replay(buf: &[u8], number: u64, p: Place) -> Place
     ensures { λ r. ⌜ Remembers p r ⌝ }
 {
     match number {
-        1 => replay_cutting::replay_pass(buf, p),
+        1 => replay_pass::replay_pass(buf, p),
         2 => replay_numbers::replay_unwrap(buf, p),
         3 => replay_numbers::replay_copy(buf, p),
         4 => replay_numbers::replay_kind(buf, p),
         5 => sorting::replay_sort(buf, p),
         6 => replay_search::replay_correction(buf, p),
         7 => replay_search::replay_divisor(buf, p),
-        8 => replay_cutting::replay_cut(buf, p),
+        8 => replay_cut::replay_cut(buf, p),
         9 => joining::replay_join(buf, p),
         10 => dividing::replay_split(buf, p),
         _ => stored::damaged(p),

@@ -10,7 +10,6 @@ use nearest::Period;
 use nearest::Unwrapped;
 use nearest::WireKind;
 use stored::Place;
-use stored_records::cells;
 
 // The number of the refusal that a period gets whose kind is neither 0 nor 1. No call can be handed such a period.
 const MALFORMED: u32 = 1;
@@ -46,8 +45,8 @@ struct Kind {
 fn read_point(buf: &[u8], p: Place) -> Point
     ensures { λ r. ⌜ r .place .«is_same» ≡ p .«is_same» ⌝ }
 {
-    let u = cells::next_float(buf, p);
-    let v = cells::next_float(buf, u.place);
+    let u = stored_cells::next_float(buf, p);
+    let v = stored_cells::next_float(buf, u.place);
     let place = v.place;
     let uv = Uv {
         u: u.value,
@@ -61,7 +60,7 @@ fn read_period(buf: &[u8], p: Place) -> Given
     ensures { λ r. ⌜ r .place .«is_same» ≡ p .«is_same» ⌝ }
 {
     let kind = stored::next(buf, p);
-    let number = cells::next_float(buf, kind.place);
+    let number = stored_cells::next_float(buf, kind.place);
     let place = number.place;
     let period = if kind.bits == 1 {
         Period::Every(number.value)
@@ -128,12 +127,12 @@ fn copy(p: Uv, q: Uv, gu: Given, gv: Given) -> Moved {
 pub fn replay_unwrap(buf: &[u8], p: Place) -> Place
     ensures { λ r. ⌜ Remembers p r ⌝ }
 {
-    let u = cells::next_float(buf, p);
-    let u0 = cells::next_float(buf, u.place);
+    let u = stored_cells::next_float(buf, p);
+    let u0 = stored_cells::next_float(buf, u.place);
     let g = read_period(buf, u0.place);
     let m = unwrap(u.value, u0.value, g);
     let told = stored::compare(buf, g.place, m.number);
-    cells::compare_float(buf, told, m.u)
+    stored_cells::compare_float(buf, told, m.u)
 }
 
 // Compares the answer of nearest_copy with the list.
@@ -141,8 +140,8 @@ fn compare_copy(buf: &[u8], p: Place, m: Moved) -> Place
     ensures { λ r. ⌜ Remembers p r ⌝ }
 {
     let told = stored::compare(buf, p, m.number);
-    let u = cells::compare_float(buf, told, m.u);
-    cells::compare_float(buf, u, m.v)
+    let u = stored_cells::compare_float(buf, told, m.u);
+    stored_cells::compare_float(buf, u, m.v)
 }
 
 // Replays nearest_copy. The place comes back past the record.
@@ -189,7 +188,7 @@ pub fn replay_kind(buf: &[u8], p: Place) -> Place
 {
     let a = read_point(buf, p);
     let b = read_point(buf, a.place);
-    let area = cells::next_float(buf, b.place);
+    let area = stored_cells::next_float(buf, b.place);
     let k = kind_of(nearest::boundary_type(a.uv, b.uv, area.value));
     let told = stored::compare(buf, area.place, k.number);
     stored::compare(buf, told, k.kind)

@@ -1,13 +1,13 @@
 // Replays one stored call of sort_wires.
 ghost use Rattle.stored.specs.Compared.{Remembers};
-ghost use Rattle.stored_records.specs.Fits.{FloatsFit, PairFits};
+ghost use Rattle.stored_cells.specs.Fits.{FloatsFit};
+ghost use Rattle.stored_records.specs.Fits.{PairFits};
 use answers::Answer;
 use answers::Left;
-use cells::Floats;
 use nearest::Sorted;
 use stored::Place;
+use stored_cells::Floats;
 use stored_records::answers;
-use stored_records::cells;
 use stored_records::tables;
 use tables::Pair;
 
@@ -43,7 +43,7 @@ pub fn replay_sort(buf: &[u8], p: Place) -> Place
     ensures { λ r. ⌜ Remembers p r ⌝ }
 {
     let wires = stored::next(buf, p);
-    let ends = cells::read_floats(buf, wires.place);
+    let ends = stored_cells::read_floats(buf, wires.place);
     let w = tables::read_pair(buf, ends.place);
     let left = sort(wires.bits as usize, ends.floats, w.pair);
     answers::compare_left(buf, w.place, left)

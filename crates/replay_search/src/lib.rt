@@ -6,7 +6,6 @@ use answers::Answer;
 use nearest::Ends;
 use stored::Place;
 use stored_records::answers;
-use stored_records::cells;
 use stored_records::tables;
 use tables::Counts;
 use tables::Shell;
@@ -77,7 +76,7 @@ fn read_start(buf: &[u8], p: Place) -> Start
 {
     let first = stored::next(buf, p);
     let second = stored::next(buf, first.place);
-    let v0 = cells::next_number(buf, second.place);
+    let v0 = stored_cells::next_number(buf, second.place);
     let place = v0.place;
     Start {
         first: first.bits as usize,

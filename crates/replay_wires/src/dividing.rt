@@ -6,7 +6,6 @@ use answers::Answer;
 use split::Boundaries;
 use stored::Place;
 use stored_records::answers;
-use stored_records::cells;
 use stored_records::tables;
 use tables::Counts;
 use tables::Pair;
@@ -44,7 +43,7 @@ fn read_asked(buf: &[u8], p: Place) -> Asked
     let face = stored::next(buf, p);
     let rebuilt = stored::next(buf, face.place);
     let divisor = stored::next(buf, rebuilt.place);
-    let surface = cells::next_number(buf, divisor.place);
+    let surface = stored_cells::next_number(buf, divisor.place);
     let place = surface.place;
     Asked {
         face: face.bits as usize,

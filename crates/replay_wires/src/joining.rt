@@ -7,7 +7,6 @@ use answers::Left;
 use join::Join;
 use stored::Place;
 use stored_records::answers;
-use stored_records::cells;
 use stored_records::tables;
 use tables::Counts;
 use tables::Pair;
@@ -37,8 +36,8 @@ fn read_ends(buf: &[u8], p: Place) -> Ends
     let first = stored::next(buf, p);
     let second = stored::next(buf, first.place);
     let wires = stored::next(buf, second.place);
-    let v0 = cells::next_number(buf, wires.place);
-    let v1 = cells::next_number(buf, v0.place);
+    let v0 = stored_cells::next_number(buf, wires.place);
+    let v1 = stored_cells::next_number(buf, v0.place);
     let place = v1.place;
     Ends {
         first: first.bits as usize,

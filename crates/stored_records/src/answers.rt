@@ -2,11 +2,12 @@
 ghost use mathlib.Core.Path.{_≡_};
 ghost use Rattle.compress.specs.Refusals.{refusalNumber};
 ghost use Rattle.stored.specs.Compared.{Remembers};
-ghost use Rattle.stored_records.specs.Fits.{PairFits};
+ghost use Rattle.stored_records.specs.Fits.{PairFits, ShellFits};
 use crate::tables;
 use compress::Refusal;
 use stored::Place;
 use tables::Pair;
+use tables::Shell;
 
 // The answer "none" of a call.
 const NONE: u64 = u64::MAX;
@@ -23,6 +24,12 @@ pub struct Answer {
 pub struct Left {
     pub answer: Answer,
     pub buffers: Pair,
+}
+
+// What a call answered, and the shell as the call left it.
+pub struct ShellLeft {
+    pub answer: Answer,
+    pub shell: Shell,
 }
 
 fn no_result(number: u64) -> Answer
@@ -92,4 +99,13 @@ pub fn compare_left(buf: &[u8], p: Place, left: Left) -> Place
 {
     let told = compare_one(buf, p, left.answer);
     tables::compare_pair(buf, told, left.buffers)
+}
+
+// Compares an answer that has three values, and the shell.
+pub fn compare_shell_left(buf: &[u8], p: Place, left: ShellLeft) -> Place
+    requires { ⌜ ShellFits (left .shell) ⌝ }
+    ensures { λ r. ⌜ Remembers p r ⌝ }
+{
+    let told = compare_three(buf, p, left.answer);
+    tables::compare_shell(buf, told, left.shell)
 }

@@ -2,11 +2,10 @@
 ghost use mathlib.Core.Path.{_≡_};
 ghost use Rattle.stored.specs.Compared.{Remembers};
 ghost use Rattle.stored_records.specs.Fits.{PairFits, ShellFits, TableFits};
-use crate::cells;
-use cells::Floats;
-use cells::Numbers;
 use stored::MOST;
 use stored::Place;
+use stored_cells::Floats;
+use stored_cells::Numbers;
 
 // A table of rows: its numbers, and its floats.
 pub struct Table {
@@ -70,8 +69,8 @@ pub fn read_counts(buf: &[u8], p: Place) -> Counts
 pub fn read_table(buf: &[u8], p: Place) -> TableRead
     ensures { λ r. ⌜ TableFits (r .table) × (r .place .«is_same» ≡ p .«is_same») ⌝ }
 {
-    let n = cells::read_numbers(buf, p);
-    let f = cells::read_floats(buf, n.place);
+    let n = stored_cells::read_numbers(buf, p);
+    let f = stored_cells::read_floats(buf, n.place);
     let numbers = n.numbers;
     let floats = f.floats;
     let place = f.place;
@@ -82,8 +81,8 @@ pub fn read_table(buf: &[u8], p: Place) -> TableRead
 pub fn read_pair(buf: &[u8], p: Place) -> PairRead
     ensures { λ r. ⌜ PairFits (r .pair) × (r .place .«is_same» ≡ p .«is_same») ⌝ }
 {
-    let a = cells::read_numbers(buf, p);
-    let b = cells::read_numbers(buf, a.place);
+    let a = stored_cells::read_numbers(buf, p);
+    let b = stored_cells::read_numbers(buf, a.place);
     let first = a.numbers;
     let second = b.numbers;
     let place = b.place;
@@ -149,22 +148,45 @@ pub fn pair_left(w: Pair, first: [u32; MOST], second: [u32; MOST]) -> Pair
     }
 }
 
+// The shell with other cells in its buffers.
+pub fn shell_left(
+    s: Shell,
+    vertex_numbers: [u32; MOST],
+    vertex_floats: [f64; MOST],
+    edge_numbers: [u32; MOST],
+    edge_floats: [f64; MOST],
+    uses: [u32; MOST],
+    lengths: [u32; MOST],
+) -> Shell
+    requires { ⌜ ShellFits s ⌝ }
+    ensures { λ r. ⌜ ShellFits r ⌝ }
+{
+    let vertices = table_left(s.vertices, vertex_numbers, vertex_floats);
+    let edges = table_left(s.edges, edge_numbers, edge_floats);
+    let wires = pair_left(s.wires, uses, lengths);
+    Shell {
+        vertices,
+        edges,
+        wires,
+    }
+}
+
 // ---- compared with the list
 
 pub fn compare_table(buf: &[u8], p: Place, t: Table) -> Place
     requires { ⌜ TableFits t ⌝ }
     ensures { λ r. ⌜ Remembers p r ⌝ }
 {
-    let past = cells::compare_numbers(buf, p, t.numbers);
-    cells::compare_floats(buf, past, t.floats)
+    let past = stored_cells::compare_numbers(buf, p, t.numbers);
+    stored_cells::compare_floats(buf, past, t.floats)
 }
 
 pub fn compare_pair(buf: &[u8], p: Place, w: Pair) -> Place
     requires { ⌜ PairFits w ⌝ }
     ensures { λ r. ⌜ Remembers p r ⌝ }
 {
-    let past = cells::compare_numbers(buf, p, w.first);
-    cells::compare_numbers(buf, past, w.second)
+    let past = stored_cells::compare_numbers(buf, p, w.first);
+    stored_cells::compare_numbers(buf, past, w.second)
 }
 
 pub fn compare_shell(buf: &[u8], p: Place, s: Shell) -> Place
