@@ -7,8 +7,6 @@
 ghost use Rattle.stored.specs.Compared.{Remembers};
 use replay_numbers::sorting;
 use replay_tally::Run;
-use replay_wires::dividing;
-use replay_wires::joining;
 use stored::Place;
 
 // Replays the call with this number. A list with any other number is damaged.
@@ -24,8 +22,8 @@ fn replay(buf: &[u8], number: u64, p: Place) -> Place
         6 => replay_search::replay_correction(buf, p),
         7 => replay_search::replay_divisor(buf, p),
         8 => replay_cut::replay_cut(buf, p),
-        9 => joining::replay_join(buf, p),
-        10 => dividing::replay_split(buf, p),
+        9 => replay_join::replay_join(buf, p),
+        10 => replay_split::replay_split(buf, p),
         _ => stored::damaged(p),
     }
 }

@@ -1,7 +1,7 @@
--- `replay_wires::dividing::compare` meets its contract: a difference met is not forgotten. Assumes nothing.
+-- `replay_split::compare` meets its contract: a difference met is not forgotten. Assumes nothing.
 use borrow.Author.Needs.{needs}
-use Rattle.replay_wires.proofs.dividing.compare.Statement.{statement}
-use Rattle.replay_wires.proofs.dividing.compare.Tie as tie
+use Rattle.replay_split.proofs.compare.Statement.{statement}
+use Rattle.replay_split.proofs.compare.Tie as tie
 
 compare-three-requires : tie.Need-compare-three-requires
 compare-three-requires c κs = search needs

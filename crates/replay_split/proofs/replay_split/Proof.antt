@@ -1,8 +1,8 @@
--- `replay_wires::dividing::replay_split` meets its contract: reading leaves what was compared before, and a difference met is not forgotten. Assumes nothing.
+-- `replay_split::replay_split` meets its contract: reading leaves what was compared before, and a difference met is not forgotten. Assumes nothing.
 use mathlib.Core.Path.{sym, _∙_}
 use borrow.Author.Needs.{needs}
-use Rattle.replay_wires.proofs.dividing.replay_split.Statement.{statement}
-use Rattle.replay_wires.proofs.dividing.replay_split.Tie as tie
+use Rattle.replay_split.proofs.replay_split.Statement.{statement}
+use Rattle.replay_split.proofs.replay_split.Tie as tie
 
 read-counts-requires : tie.Need-read-counts-requires
 read-counts-requires c κs = search needs

@@ -1,8 +1,8 @@
--- `replay_wires::joining::replay_join` meets its contract: reading leaves what was compared before, and a difference met is not forgotten. Assumes nothing.
+-- `replay_join::replay_join` meets its contract: reading leaves what was compared before, and a difference met is not forgotten. Assumes nothing.
 use mathlib.Core.Path.{sym, _∙_}
 use borrow.Author.Needs.{needs}
-use Rattle.replay_wires.proofs.joining.replay_join.Statement.{statement}
-use Rattle.replay_wires.proofs.joining.replay_join.Tie as tie
+use Rattle.replay_join.proofs.replay_join.Statement.{statement}
+use Rattle.replay_join.proofs.replay_join.Tie as tie
 
 read-counts-requires : tie.Need-read-counts-requires
 read-counts-requires c κs = search needs

@@ -1,9 +1,9 @@
--- `replay_wires::joining::joined` meets its contract: each buffer is at most as long as its array. Assumes nothing.
+-- `replay_join::joined` meets its contract: each buffer is at most as long as its array. Assumes nothing.
 use mathlib.Core.Path.{sym}
 use lib.Seq.{length-take-le}
 use borrow.Author.Needs.{needs}
-use Rattle.replay_wires.proofs.joining.joined.Statement.{statement}
-use Rattle.replay_wires.proofs.joining.joined.Tie as tie
+use Rattle.replay_join.proofs.joined.Statement.{statement}
+use Rattle.replay_join.proofs.joined.Tie as tie
 
 array-share-prefix-edge-numbers : tie.Need-array-share-prefix-edge-numbers
 array-share-prefix-edge-numbers c = c .before .before .before .before .before .before .pre .0 .0 .1

@@ -1,9 +1,9 @@
--- `replay_wires::dividing::divided` meets its contract: each buffer is at most as long as its array. Assumes nothing.
+-- `replay_split::divided` meets its contract: each buffer is at most as long as its array. Assumes nothing.
 use mathlib.Core.Path.{sym}
 use lib.Seq.{length-take-le}
 use borrow.Author.Needs.{needs}
-use Rattle.replay_wires.proofs.dividing.divided.Statement.{statement}
-use Rattle.replay_wires.proofs.dividing.divided.Tie as tie
+use Rattle.replay_split.proofs.divided.Statement.{statement}
+use Rattle.replay_split.proofs.divided.Tie as tie
 
 array-borrow-prefix-edge-numbers : tie.Need-array-borrow-prefix-edge-numbers
 array-borrow-prefix-edge-numbers c = c .before .before .before .before .before .before .before .before .before .before .pre .0 .0 .1
@@ -75,7 +75,7 @@ slice-aggregate-split-boundaries-by-divisor-10 :
 slice-aggregate-split-boundaries-by-divisor-10 c = sym (length-take-le _ _ (array-borrow-prefix-lengths (c .before)))
 
 split-boundaries-by-divisor-requires : tie.Need-split-boundaries-by-divisor-requires
-split-boundaries-by-divisor-requires c κs = search needs
+split-boundaries-by-divisor-requires c κs = tt
 
 table-left-requires : tie.Need-table-left-requires
 table-left-requires c κs = c .before .before .before .before .before .before .before .before .before .before .before .before .before .before .before .before .before .before .before .before .before .before .before .before .before .pre .0
@@ -84,7 +84,7 @@ pair-left-requires : tie.Need-pair-left-requires
 pair-left-requires c κs = c .before .before .before .before .before .before .before .before .before .before .before .before .before .before .before .before .before .before .before .before .before .before .before .before .before .before .pre .4
 
 answer-of-requires : tie.Need-answer-of-requires
-answer-of-requires c κs = search needs
+answer-of-requires c κs = tt
 
 returns : tie.Need-returns
 returns c = (c .before .before .table-left .ensures .0, c .before .pair-left .ensures .0)
