@@ -65,7 +65,7 @@ pub fn float(x: f64) -> u32
     cause_when(!floats::is_sized(x), 4)
 }
 
-pub fn range(t0: f64, t1: f64) -> u32
+fn range(t0: f64, t1: f64) -> u32
     ensures { λ r. ⌜ r ≡ rangeCause t0 t1 ⌝ }
 {
     lower(float(t0), lower(float(t1), cause_when(t0 > t1, 5)))
@@ -104,7 +104,7 @@ pub fn uv(p: Uv) -> u32
     lower(float(p.u), float(p.v))
 }
 
-pub fn curve(c: Curve) -> u32
+fn curve(c: Curve) -> u32
     ensures { λ r. ⌜ r ≡ curveCause c ⌝ }
 {
     match c {

@@ -12,9 +12,9 @@ use loops::Loop;
 use nearest::Ends;
 
 // The places i1 and j1.
-pub struct Second {
-    pub i: usize,
-    pub j: usize,
+struct Second {
+    i: usize,
+    j: usize,
 }
 
 fn second_pair(found: Loop, j0: usize, n: usize) -> Second

@@ -12,7 +12,8 @@ use Rattle.compress.specs.Records.{pick, frontAt}
 use Rattle.compress.specs.Refusals.{refusalNumber}
 use Rattle.compress.specs.Rows.{edgeAt, vertexAt}
 use Rattle.compress.specs.Said.{Said, result, none, refused, refusedOr}
-use Rattle.checks.specs.Causes.{lowerOf, verticesCause, edgesCause, usesCause, vertexNumberCause, pendingCause}
+use Rattle.checks.specs.Causes.{lowerOf, usesCause, vertexNumberCause}
+use Rattle.points.specs.Tables.{tablesCause}
 use Rattle.nearest.specs.declared.Xyz.{Xyz}
 use Rattle.nearest.specs.declared.Away.{Away}
 use Rattle.nearest.specs.declared.Ends.{Ends}
@@ -69,9 +70,6 @@ stretchesCause edges a n b m =
     pick (ltb (length a) n) 1
     (pick (ltb (length b) m) 1
     (pick (ltb 1024 (n + m)) 1 (lowerOf (usesCause edges a n) (usesCause edges b m))))
-
-unfoldable pub tablesCause : List ℕ → List Float → List ℕ → List Float → ℕ → ℕ → ℕ
-tablesCause vn vf en ef v e = lowerOf (verticesCause vn vf v) (lowerOf (edgesCause v en ef e) (pendingCause vn v))
 
 unfoldable pub endsCause : List ℕ → List Float → List ℕ → List Float → List ℕ → List ℕ → ℕ → ℕ → ℕ → ℕ → ℕ → ℕ
 endsCause vn vf en ef a b v e n m v0 =

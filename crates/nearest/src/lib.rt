@@ -3,17 +3,17 @@ ghost use mathlib.Core.Path.{_≡_};
 ghost use Prim.Native.Nat.{ℕ, _+_, _*_, _/_, _≤_, _<_};
 ghost use lib.ListN.{length, getD, drop};
 ghost use Rattle.compress.specs.Choice.{smaller};
-ghost use Rattle.nearest.specs.Ends.{pointOf, pointGap, awayAt, gapOf, nearestFront, nearestEnds, saidEnds, tablesCause, stretchesCause, endsCause, nearestCorrection};
+ghost use Rattle.nearest.specs.Ends.{pointOf, pointGap, awayAt, gapOf, nearestFront, nearestEnds, saidEnds, stretchesCause, endsCause, nearestCorrection};
 ghost use Rattle.checks.specs.Causes.{verticesCause, edgesCause};
 ghost use Rattle.compress.specs.Rows.{edgeAt, vertexAt};
 use compress::Refusal;
 use compress::Vertex;
 
 // A point in space.
-pub struct Xyz {
-    pub x: f64,
-    pub y: f64,
-    pub z: f64,
+struct Xyz {
+    x: f64,
+    y: f64,
+    z: f64,
 }
 
 // The answer of nearest ends: a vertex of the first stretch and one of the second, or "none".
@@ -51,9 +51,9 @@ fn point_at(numbers: &[u32], floats: &[f64], v: u32) -> Xyz
 }
 
 // A vertex, with its squared distance from a point.
-pub struct Away {
-    pub vertex: u32,
-    pub gap: f64,
+struct Away {
+    vertex: u32,
+    gap: f64,
 }
 
 fn away_at(numbers: &[u32], floats: &[f64], from: Xyz, v: u32) -> Away
@@ -144,26 +144,6 @@ pub fn nearest_ends(
     Ends::Between(w0, v1)
 }
 
-// Causes 1 to 5 of both tables, and 7.
-pub fn tables_cause(
-    vertex_numbers: &[u32],
-    vertex_floats: &[f64],
-    edge_numbers: &[u32],
-    edge_floats: &[f64],
-    vertices: usize,
-    edges: usize,
-) -> u32
-    ensures { λ r. ⌜ r ≡ tablesCause (now («vertex_numbers» .entry)) (now («vertex_floats» .entry)) (now («edge_numbers» .entry)) (now («edge_floats» .entry)) vertices edges ⌝ }
-{
-    let e = tables::edges(vertices, edge_numbers, edge_floats, edges);
-    if tables::are_points(vertex_numbers, vertex_floats, vertices) {
-        return e;
-    }
-    let v = tables::vertices(vertex_numbers, vertex_floats, vertices);
-    let p = tables::pending(vertex_numbers, vertices);
-    checks::lower(v, checks::lower(e, p))
-}
-
 fn stretches_cause(edges: usize, a: &[u32], n: usize, b: &[u32], m: usize) -> u32
     ensures { λ r. ⌜ r ≡ stretchesCause edges (now (a .entry)) n (now (b .entry)) m ⌝ }
 {
@@ -199,7 +179,7 @@ fn ends_cause(
 ) -> u32
     ensures { λ r. ⌜ r ≡ endsCause (now («vertex_numbers» .entry)) (now («vertex_floats» .entry)) (now («edge_numbers» .entry)) (now («edge_floats» .entry)) (now (first .entry)) (now (second .entry)) vertices edges n m v0 ⌝ }
 {
-    let t = tables_cause(
+    let t = points::tables_cause(
         vertex_numbers,
         vertex_floats,
         edge_numbers,

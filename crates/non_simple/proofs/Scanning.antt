@@ -18,10 +18,11 @@ use Rattle.checks.specs.Causes.{wiresCause}
 use Rattle.checks.proofs.Accepted.{wires-accepted, edges-accepted}
 use Rattle.checks.proofs.Lowest.{lower-none}
 use Rattle.checks.proofs.Small.{lower-small, wires-small}
-use Rattle.nearest.proofs.Accepted.{TablesAccepted, tables-accepted, tables-small}
+use Rattle.points.proofs.Accepted.{TablesAccepted, tables-accepted, tables-small}
 use Rattle.wires.specs.Turn.{turned}
 use Rattle.wires.proofs.Turns.{length-turned, getD-turned}
-use Rattle.nearest.specs.Ends.{Divisor, tablesCause}
+use Rattle.nearest.specs.Ends.{Divisor}
+use Rattle.points.specs.Tables.{tablesCause}
 use Rattle.loops.specs.Loop.{pair, firstRepeat}
 use Rattle.divisor.specs.Divided.{turnedDivisor}
 use Rattle.non_simple.specs.Divisor.{wireDivisor, orNext, isNone, findDivisor, searchCause}

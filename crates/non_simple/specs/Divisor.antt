@@ -11,7 +11,8 @@ use Rattle.compress.specs.Said.{Said, result, refused, refusedOr}
 use Rattle.compress.specs.Wires.{wiresOf}
 use Rattle.checks.specs.Causes.{lowerOf, wiresCause}
 use Rattle.wires.specs.Turn.{turned}
-use Rattle.nearest.specs.Ends.{Divisor, tablesCause}
+use Rattle.nearest.specs.Ends.{Divisor}
+use Rattle.points.specs.Tables.{tablesCause}
 use Rattle.loops.specs.Loop.{Repeat, pair, firstRepeat}
 use Rattle.divisor.specs.Divided.{turnedDivisor}
 use Rattle.compress.specs.Said as said

@@ -175,7 +175,7 @@ fn search_cause(
 ) -> u32
     ensures { λ r. ⌜ r ≡ searchCause (now («vertex_numbers» .entry)) (now («vertex_floats» .entry)) (now («edge_numbers» .entry)) (now («edge_floats» .entry)) (now (uses .entry)) (now (lengths .entry)) vertices edges wires ⌝ }
 {
-    let t = nearest::tables_cause(
+    let t = points::tables_cause(
         vertex_numbers,
         vertex_floats,
         edge_numbers,

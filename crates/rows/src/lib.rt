@@ -6,7 +6,7 @@ ghost use lib.ListN.{length, take, drop};
 ghost use lib.Seq.{sets};
 ghost use Rattle.compress.specs.Records.{kindOf, numberOf};
 ghost use Rattle.compress.specs.Layout.{put};
-ghost use Rattle.compress.specs.Shell.{verticesFit, edgesFit, usesFit};
+ghost use Rattle.compress.specs.Shell.{edgesFit, usesFit};
 ghost use Rattle.compress.specs.Rows.{curveFirst, curveCells, edgeNumbers, edgeFloats, vertexNumbers, vertexFloats};
 use compress::Curve;
 use compress::Edge;
@@ -140,18 +140,6 @@ pub fn put_vertex(numbers: &mut [u32], floats: &mut [f64], i: usize, v: Vertex)
 }
 
 // ---- room for a result
-
-// n vertices are within their bound, and a place is lent for each.
-pub fn vertices_fit(numbers: &[u32], floats: &[f64], n: usize) -> bool
-    ensures { λ r. ⌜ r ≡ verticesFit (now (numbers .entry)) (now (floats .entry)) n ⌝ }
-{
-    if n > 4096 {
-        return false;
-    }
-    let a = n * 3 <= numbers.len();
-    let b = n * 7 <= floats.len();
-    a & b
-}
 
 // n edges are within their bound, and a place is lent for each.
 pub fn edges_fit(numbers: &[u32], floats: &[f64], n: usize) -> bool

@@ -1,24 +1,10 @@
--- What is the same, and what a place in the list remembers of it. Definitions only.
+-- What a word is, what a place in the list remembers of what was compared, and what a refill keeps. Definitions only.
 use mathlib.Core.Path.{_≡_}
-use mathlib.Core.Bool.{Bool, true, false, _&&_}
+use mathlib.Core.Bool.{Bool, true, _&&_}
 use mathlib.Core.List.{List}
-use Prim.Native.Nat.{ℕ, _+_, _*_, _-_}
-use lib.Dec.{eqb}
+use Prim.Native.Nat.{ℕ, _+_, _*_, _-_, _<_}
 use lib.ListN.{getD}
-use lib.Ieee.{Float, binary64, nan, eq, ofBits, toBits, nanBits}
-use Rattle.stored.specs.declared.words.Place.{Place}
-
-abbrev pub choose : {A : Type 0} → Bool → A → A → A
-choose true a b = a
-choose false a b = b
-
--- the float of a bit pattern; every pattern of a NaN gives the one NaN
-unfoldable pub floatOf : ℕ → Float
-floatOf bits = choose (nanBits binary64 bits) nan (ofBits binary64 bits)
-
--- x has this bit pattern; a NaN has that of any NaN
-unfoldable pub hasPattern : Float → ℕ → Bool
-hasPattern x bits = choose (eq x x) (eqb (toBits binary64 x) bits) (nanBits binary64 bits)
+use Rattle.stored.specs.declared.Place.{Place}
 
 -- a difference that was met before is not forgotten
 abbrev pub Remembers : Place → Place → Type 0
@@ -39,3 +25,7 @@ wordBefore s p = wordAt s (p .at - 8)
 -- where the list is whole, a place says "same" just if it said so before and the word that was read passes a test
 abbrev pub Tested : List ℕ → (ℕ → Bool) → Place → Place → Type 0
 Tested s test before after = after .«is_whole» ≡ true → after .«is_same» ≡ (before .«is_same» && test (wordBefore s after))
+
+-- the first n bytes from a place on stand from another place on in another buffer
+abbrev pub Moved : List ℕ → ℕ → ℕ → List ℕ → ℕ → Type 0
+Moved s at n t to = (k : ℕ) → k < n → getD t (to + k) 0 ≡ getD s (at + k) 0

@@ -1,4 +1,4 @@
-// Causes 1 to 5 and 7 of document 01's table, for tables of edges and of vertices: every row is checked, and the lowest number wins.
+// Causes 1 to 5 of document 01's table, for tables of edges and of vertices: every row is checked, and the lowest number wins.
 ghost use mathlib.Core.Path.{_≡_};
 ghost use mathlib.Core.Bool.{true};
 ghost use Prim.Native.Nat.{ℕ, _+_, _*_, _≤_};
@@ -6,7 +6,7 @@ ghost use lib.Dec.{eqb};
 ghost use lib.ListN.{length, getD};
 ghost use lib.Ieee.{nan};
 ghost use Rattle.compress.specs.Rows.{curveOf};
-ghost use Rattle.checks.specs.Causes.{lowerOf, lowestOf, rangeCause, parameterCause, uvCause, curveCause, pointCause, curveKindCause, edgeRowCause, vertexRowCause, edgesCause, verticesCause, pendingRowCause, pendingCause};
+ghost use Rattle.checks.specs.Causes.{lowestOf, rangeCause, parameterCause, uvCause, curveCause, pointCause, curveKindCause, edgeRowCause, vertexRowCause, edgesCause, verticesCause};
 
 // ---- rows
 
@@ -66,7 +66,8 @@ fn is_uv_sound(u: f64, v: f64) -> bool
     floats::is_sized(u) & floats::is_sized(v)
 }
 
-fn is_point_sound(x: f64, y: f64, z: f64) -> bool
+// Whether a point has no cause.
+pub fn is_point_sound(x: f64, y: f64, z: f64) -> bool
     ensures { λ r. ⌜ r ≡ eqb (pointCause x y z) 0 ⌝ }
 {
     floats::is_sized(x) & floats::is_sized(y) & floats::is_sized(z)
@@ -149,31 +150,6 @@ fn are_vertices_sound(numbers: &[u32], floats: &[f64], count: usize) -> bool
     true
 }
 
-// Whether the vertex of row i is given, and without a cause.
-fn is_given_sound(numbers: &[u32], floats: &[f64], i: usize) -> bool
-    requires { ⌜ (i * 3 + 3 ≤ length (now numbers)) × (i * 7 + 7 ≤ length (now floats)) ⌝ }
-    ensures { λ r. ⌜ r ≡ eqb (lowerOf (vertexRowCause (now (numbers .entry)) (now (floats .entry)) i) (pendingRowCause (now (numbers .entry)) i)) 0 ⌝ }
-{
-    let a = i * 3;
-    let b = i * 7;
-    if numbers[a] != 0 {
-        return false;
-    }
-    is_point_sound(floats[b], floats[b + 1], floats[b + 2])
-}
-
-fn are_given_sound(numbers: &[u32], floats: &[f64], count: usize) -> bool
-    requires { ⌜ (count * 3 ≤ length (now numbers)) × (count * 7 ≤ length (now floats)) ⌝ }
-    ensures { λ r. ⌜ r ≡ eqb (lowerOf (lowestOf (vertexRowCause (now (numbers .entry)) (now (floats .entry))) count) (lowestOf (pendingRowCause (now (numbers .entry))) count)) 0 ⌝ }
-{
-    for i in 0..count {
-        if !is_given_sound(numbers, floats, i) {
-            return false;
-        }
-    }
-    true
-}
-
 // ---- tables
 
 fn edge_rows(vertices: usize, numbers: &[u32], floats: &[f64], count: usize) -> u32
@@ -234,45 +210,4 @@ pub fn vertices(numbers: &[u32], floats: &[f64], count: usize) -> u32
         return 0;
     }
     vertex_rows(numbers, floats, count)
-}
-
-fn pending_rows(numbers: &[u32], count: usize) -> u32
-    requires { ⌜ count * 3 ≤ length (now numbers) ⌝ }
-    ensures { λ r. ⌜ r ≡ lowestOf (pendingRowCause (now (numbers .entry))) count ⌝ }
-{
-    let mut least: u32 = 0;
-    for i in 0..count {
-        let a = i * 3;
-        least = checks::lower(least, checks::cause_when(numbers[a] == 1, 7));
-    }
-    least
-}
-
-// Cause 7: a table in which a vertex is pending.
-pub fn pending(numbers: &[u32], count: usize) -> u32
-    ensures { λ r. ⌜ r ≡ pendingCause (now (numbers .entry)) count ⌝ }
-{
-    if count > 4096 {
-        return 0;
-    }
-    if numbers.len() < count * 3 {
-        return 0;
-    }
-    pending_rows(numbers, count)
-}
-
-// Whether a table has given vertices only, and no cause, 7 included, told in one pass. After a no `vertices` and `pending` tell the causes.
-pub fn are_points(numbers: &[u32], floats: &[f64], count: usize) -> bool
-    ensures { λ r. ⌜ r ≡ eqb (lowerOf (verticesCause (now (numbers .entry)) (now (floats .entry)) count) (pendingCause (now (numbers .entry)) count)) 0 ⌝ }
-{
-    if count > 4096 {
-        return false;
-    }
-    if numbers.len() < count * 3 {
-        return false;
-    }
-    if floats.len() < count * 7 {
-        return false;
-    }
-    are_given_sound(numbers, floats, count)
 }

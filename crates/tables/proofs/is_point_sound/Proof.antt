@@ -1,9 +1,6 @@
-use Rattle.tables.proofs.Given.{point-test}
+use Rattle.tables.proofs.Told.{point-test}
 -- `tables::is_point_sound` meets its contract. Assumes nothing.
-use mathlib.Core.Path.{sym, _∙_}
-use mathlib.Core.Bool.{_&&_}
 use borrow.Author.Needs.{needs}
-use Rattle.checks.proofs.Sound.{both, point-sound}
 use Rattle.tables.proofs.is_point_sound.Statement.{statement}
 use Rattle.tables.proofs.is_point_sound.Tie as tie
 

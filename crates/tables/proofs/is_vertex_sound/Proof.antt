@@ -1,5 +1,5 @@
 -- `tables::is_vertex_sound` meets its contract. Assumes nothing.
-use Rattle.tables.proofs.Given.{told-none}
+use Rattle.tables.proofs.Told.{told-none}
 use borrow.Author.Tests.{not-false}
 use borrow.Author.Needs.{needs}
 use Rattle.checks.proofs.Sound.{no, given-sound, pending-sound}
