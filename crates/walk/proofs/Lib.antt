@@ -7,5 +7,4 @@ pub mod Tabled
 pub mod Small
 pub mod Steps
 pub mod Walks
-pub mod Copying
 pub mod Storing

@@ -6,11 +6,11 @@ use Prim.Native.Nat.{ℕ, suc, _≤_}
 use native.Mathlib.Omega.{arith}
 use lib.ListN.{length, take, drop}
 use lib.Seq.{length-take-le}
-use Rattle.compress.specs.Wires.{usesOf, lengthsOf}
+use Rattle.compress.specs.Wires.{total, usesOf, lengthsOf}
 use Rattle.walk.specs.declared.Walked.{Walked}
 use Rattle.walk.specs.declared.Walked.the-variants.{Done, DeadEnd, TooManyUses, EmptyList}
 use Rattle.walk.specs.Walk.{Answer, join}
-use Rattle.walk.specs.Answered.{total, Traced, madeBy, leavesWalk, walkOutcome}
+use Rattle.walk.specs.Answered.{Traced, madeBy, leavesWalk, walkOutcome}
 
 pub uses-joined : (ws : List (List ℕ)) → usesOf ws ≡ join ws
 unfolding usesOf
@@ -30,7 +30,7 @@ lengths-mapped (w ∷ ws) = ap (λ (l : List ℕ). length w ∷ l) (lengths-mapp
 module _ (a : Answer) (k : ℕ) (made sizes : List ℕ) where
   -- what is copied is no more than the uses walked
   pub traced-few : (r : Walked) → Traced a k made sizes r → (madeBy r ≤ k) × (total (take (madeBy r) sizes) ≤ k)
-  unfolding Traced
+  unfolding Traced total
   traced-few (Done n t) T = (omega (arith, T .0 .few, T .1), omega (arith, T .0 .summed, T .1))
   traced-few DeadEnd T = (omega arith, omega arith)
   traced-few TooManyUses T = (omega arith, omega arith)
@@ -39,7 +39,7 @@ module _ (a : Answer) (k : ℕ) (made sizes : List ℕ) where
   module _ (us ls us′ ls′ : List ℕ) where
     pub left : (r : Walked) → Traced a k made sizes r → k ≤ 1024 → us′ ≡ take (total (take (madeBy r) sizes)) made ++ drop (total (take (madeBy r) sizes)) us
         → ls′ ≡ take (madeBy r) sizes ++ drop (madeBy r) ls → leavesWalk r us′ ls′ ≡ walkOutcome a us ls
-    unfolding Traced
+    unfolding Traced total
     left (Done n t) T few eu el =
         let m = T .0 in
         let ws = m .ws in

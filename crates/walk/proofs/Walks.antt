@@ -17,7 +17,8 @@ use Rattle.step.specs.declared.Step.{Step}
 use Rattle.walk.specs.declared.Walked.{Walked}
 use Rattle.lists.specs.Lists.{entryOf, Lists, Lowest}
 use Rattle.step.specs.Arrival.{exactlyOne, Went, absent, empty, many, one, second, first, causeOf, useOf}
-use Rattle.walk.specs.Answered.{walkedOf, total, Traced}
+use Rattle.compress.specs.Wires.{total}
+use Rattle.walk.specs.Answered.{walkedOf, Traced}
 use Rattle.lists.proofs.Chains.{chain-none, node, entry-some, lists-last, lists-first, two, one-only, three}
 use Rattle.walk.proofs.Steps.{going, after, after-walk, after-nil, going-refused, going-along, going-closed, after-fresh, shorter, wire-more, wire-first, wire-joined, join-snoc, map-snoc}
 
@@ -40,6 +41,7 @@ many-refused marked m (x ∷ y ∷ []) h = absurd (omega arith)
 many-refused marked m (x ∷ y ∷ z ∷ b) h = refl
 
 total-lengths : (ws : List (List ℕ)) → total (map length ws) ≡ length (join ws)
+unfolding total
 total-lengths [] = refl
 total-lengths (w ∷ ws) = omega (arith, total-lengths ws, length-append w (join ws))
 

@@ -1,13 +1,13 @@
 -- What the walk answers, by document 01's numbers, and what it leaves in its two tables and in the lent buffers. Definitions only.
-use Prim.Native.Nat.{ℕ, _+_, _≤_}
+use Prim.Native.Nat.{ℕ, _≤_}
 use mathlib.Core.Path.{_≡_}
-use mathlib.Core.List.{List, [], _∷_, map}
+use mathlib.Core.List.{List, map}
 use lib.ListN.{length, take}
 use lib.Dec.{eqb}
 use Rattle.compress.specs.Records.{pick}
 use Rattle.compress.specs.Said.{Said, result}
 use Rattle.compress.specs.Said as said
-use Rattle.compress.specs.Wires.{usesOf, lengthsOf, over}
+use Rattle.compress.specs.Wires.{total, usesOf, lengthsOf, over}
 use Rattle.walk.specs.Walk.{Answer, wires, refused, join}
 use Rattle.walk.specs.declared.Walked.{Walked}
 use Rattle.walk.specs.declared.Walked.the-variants.{Done, DeadEnd, TooManyUses, EmptyList}
@@ -15,11 +15,6 @@ use Rattle.walk.specs.declared.Walked.the-variants.{Done, DeadEnd, TooMa
 -- What the walk comes to, by that number.
 unfoldable pub walkedOf : ℕ → ℕ → ℕ → Walked
 walkedOf cause n t = pick (eqb cause 0) (Done n t) (pick (eqb cause 11) DeadEnd (pick (eqb cause 12) TooManyUses EmptyList))
-
--- The sum of a list.
-abbrev pub total : List ℕ → ℕ
-total [] = 0
-total (x ∷ l) = x + total l
 
 -- What the walk leaves where it succeeds: the uses of its wires, wire after wire, in the front of made, and the wires' lengths in the front of sizes.
 pub record Made (a : Answer) (made sizes : List ℕ) (n t : ℕ) : Type 0 where

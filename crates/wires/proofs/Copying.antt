@@ -7,7 +7,7 @@ use mathlib.Core.Path.{_≡_, refl, sym, ap, _∙_}
 use mathlib.Core.List.{List, [], _∷_, _++_, append-assoc, append-nil}
 use lib.ListN.{length, take, drop, getD, length-append, length-drop, drop-of-length-le}
 use lib.Seq.{length-take-le, take-suc, take-all, take-at, take-add, drop-at, drop-drop}
-use Rattle.walk.specs.Answered.{total}
+use Rattle.compress.specs.Wires.{total}
 
 -- the piece pc is laid after g: the part from at on was lent, and came back as ys
 placed : (g pc was us ys : List ℕ) (at n : ℕ) → length g ≡ at → length pc ≡ n → us ≡ g ++ drop at was → ys ≡ pc ++ drop n (take (length us - at) (drop at us))
@@ -22,10 +22,12 @@ placed g pc was us ys at n lg lp eu ey =
 
 -- sums of the first of a list
 total-append : (a b : List ℕ) → total (a ++ b) ≡ total a + total b
+unfolding total
 total-append [] b = omega arith
 total-append (x ∷ a) b = omega (arith, total-append a b)
 
 pub total-more : (l : List ℕ) (k : ℕ) → k < length l → total (take (k + 1) l) ≡ total (take k l) + getD l k 0
+unfolding total
 total-more l k h =
     ap (λ (m : ℕ). total (take m l)) (add-one k) ∙ ap total (take-suc l k 0 h) ∙ total-append (take k l) (getD l k 0 ∷ []) ∙ omega arith
 
@@ -45,6 +47,7 @@ pub record Copied (made sizes : List ℕ) (n : ℕ) (out₀ out : List ℕ) (at 
 
 module _ {made sizes : List ℕ} {n : ℕ} {out₀ : List ℕ} where
   pub copied-start : Copied made sizes n out₀ out₀ 0 0
+  unfolding total
   copied-start = record { k-le = omega arith; at-is = refl; at-le = omega arith; same = refl; is = refl }
 
   pub copied-turn : {out ys : List ℕ} {at k m : ℕ} → Copied made sizes n out₀ out at k → k < n → n ≤ length sizes → total (take n sizes) ≤ length made → total (take n sizes) ≤ length out₀
