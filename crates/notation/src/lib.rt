@@ -47,6 +47,12 @@ pub fn number(out: i32, n: u32) {
     io::print_decimal(out, wide(n));
 }
 
+// A text, and a number behind it.
+pub fn numbered(out: i32, s: &[u8], n: u32) {
+    text(out, s);
+    number(out, n);
+}
+
 // How many of 0.5, 1.5, 2.5 and so on are below x, at most 9,999: x to the nearest whole number, 0 for a negative one.
 pub fn rounded(x: f64) -> u32
     ensures { λ r. ⌜ r ≤ 9999 ⌝ }
@@ -108,8 +114,14 @@ pub fn wires(out: i32, uses: &[u32], lengths: &[u32], count: usize) {
     }
 }
 
-pub fn count(out: i32, n: usize) {
+fn count(out: i32, n: usize) {
     io::print_decimal(out, n as u64);
+}
+
+// A text, and a count behind it.
+pub fn counted(out: i32, s: &[u8], n: usize) {
+    text(out, s);
+    count(out, n);
 }
 
 // ---- the tally
