@@ -16,7 +16,7 @@ use Rattle.walk.specs.Walk.{Answer, wires}
 use Rattle.lists.specs.Members.{count}
 use Rattle.walk.specs.Walk as walk
 use Rattle.walk.specs.Claim.{Claimed}
-use Rattle.walk.proofs.Counts.{bit, count-cons, count-append}
+use Rattle.lists.proofs.Counts.{bit, count-cons, count-append}
 use Rattle.walk.proofs.Storing.{uses-joined, length-lengths}
 use Rattle.walk.proofs.Tabled.{table-theorem, table-balanced}
 use Rattle.marks.specs.Marks.{newUses}

@@ -10,7 +10,8 @@ use lib.ListN.{length}
 use borrow.Author.Tests.{eq-eqb, ne-eqb}
 use Rattle.walk.specs.Walk.{finish, fresh, State, least, begin, choose, turn, move}
 use Rattle.lists.specs.Members.{put, sits, at}
-use Rattle.walk.proofs.Counts.{bit, count-cons, least-has}
+use Rattle.lists.proofs.Counts.{bit, count-cons}
+use Rattle.walk.proofs.Counts.{least-has}
 
 module _ (front : ℕ → ℕ) where
   -- Below the smallest vertex every list is empty, and a list of uses is empty where all the lists are.

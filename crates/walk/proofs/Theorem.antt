@@ -13,7 +13,8 @@ use borrow.Author.Tests.{eqb-true, eqb-false, eq-eqb, ne-eqb}
 use Rattle.walk.specs.Walk.{Answer, wires, refused, Move, finish, refuse, fresh, along, State, join, side, least, begin, begun, choose, closed, gone, turn, move, run, walk}
 use Rattle.lists.specs.Members.{count, del, sits, at}
 use Rattle.walk.specs.Claim.{Wire, out, into, Walks}
-use Rattle.walk.proofs.Counts.{bit, count-cons, count-append, count-join, took, passes, count-all, snoc-all, least-has}
+use Rattle.lists.proofs.Counts.{bit, count-cons, count-append}
+use Rattle.walk.proofs.Counts.{count-join, took, passes, count-all, snoc-all, least-has}
 
 -- Every vertex is balanced.
 abbrev pub Even : (ℕ → ℕ) → (ℕ → ℕ) → List ℕ → Type 0

@@ -11,7 +11,7 @@ use lib.ListN.{length, getD, take}
 use lib.Seq.{take-suc, take-all}
 use Rattle.compress.specs.Records.{pick}
 use Rattle.lists.specs.Members.{count}
-use Rattle.walk.proofs.Counts.{bit, count-cons, count-append}
+use Rattle.lists.proofs.Counts.{bit, count-cons, count-append}
 use Rattle.notation.proofs.places.Statement.{statement}
 use Rattle.notation.proofs.places.Tie as tie
 
