@@ -43,32 +43,21 @@ fn are_zero(floats: &[f64]) -> bool
     true
 }
 
+// The edges of K9: 0 = (0, 2), 1 = (0, 1), 2 = (1, 0), 3 = (2, 3), 4 = (3, 2).
+const K9: [u32; 20] = [0, 2, 0, 0, 0, 1, 0, 0, 1, 0, 0, 0, 2, 3, 0, 0, 3, 2, 0, 0];
+
+// The buffers of K14 as they were lent.
+fn is_left(numbers: &[u32], floats: &[f64], uses: &[u32], lengths: &[u32]) -> bool {
+    let a = is_same(numbers, &K9);
+    let b = is_same(uses, &[99; 8]);
+    let c = is_same(lengths, &[99; 8]);
+    a & b & c & are_zero(floats)
+}
+
 // "K14: list of one vertex: 9." K9's edges and wire, as the face and to be rebuilt; every buffer holds 99 and is left.
 fn is_k14_same() -> bool {
-    let rows = [
-        0u32,
-        2,
-        0,
-        0,
-        0,
-        1,
-        0,
-        0,
-        1,
-        0,
-        0,
-        0,
-        2,
-        3,
-        0,
-        0,
-        3,
-        2,
-        0,
-        0,
-    ];
     let wire = [2u32, 4, 0, 6, 8, 1];
-    let mut numbers = rows;
+    let mut numbers = K9;
     let mut floats = [0.0f64; 36];
     let mut uses = [99u32; 8];
     let mut lengths = [99u32; 8];
@@ -93,40 +82,14 @@ fn is_k14_same() -> bool {
     let Boundaries::SplitRefused(r) = answer else {
         return false;
     };
-    let a = is_same(&numbers, &rows);
-    let b = is_same(&uses, &[99; 8]);
-    let c = is_same(&lengths, &[99; 8]);
-    let d = are_zero(&floats);
-    a & b & c & d & (compress::refusal_number(r) == 9)
+    is_left(&numbers, &floats, &uses, &lengths) & (compress::refusal_number(r) == 9)
 }
 
 // The join of K15 and K16, over K9's edges, with the new wire 0+ 0-, v0 0 and v1 2. The cells past the new wire hold 99.
 fn join_pipe(first: &[u32], second: &[u32], uses: &mut [u32], lengths: &mut [u32]) -> Join {
-    let numbers = [
-        0u32,
-        2,
-        0,
-        0,
-        0,
-        1,
-        0,
-        0,
-        1,
-        0,
-        0,
-        0,
-        2,
-        3,
-        0,
-        0,
-        3,
-        2,
-        0,
-        0,
-    ];
     let floats = [0.0f64; 30];
     join::connect_open_boundaries(
-        &numbers,
+        &K9,
         &floats,
         first,
         second,
