@@ -178,12 +178,14 @@ fn write_arrow(k: usize, l: Line, i: usize, u: u32) {
 }
 
 // Contour k: the first n uses, each beginning where the one before it ends.
-fn write_contour(k: usize, numbers: &[u32], floats: &[f64], uses: &[u32], n: usize) {
+fn write_contour(k: usize, edges: Edges, uses: [u32; 8], n: usize) {
+    let numbers = edges.numbers;
+    let floats = edges.floats;
     let mut at = 0.0f64;
     let mut i: usize = 0;
     while i < n {
-        let u = notation::at(uses, i);
-        let l = unwrapped(line_of_use(numbers, floats, u), at);
+        let u = notation::at(&uses, i);
+        let l = unwrapped(line_of_use(&numbers, &floats, u), at);
         write_arrow(k, l, i + 1, u);
         at = l.to.u;
         i += 1;
@@ -212,18 +214,12 @@ fn write_beginning() {
 
 // The picture of the contours.
 pub fn write_plate(edges: Edges, wires: Wires) {
-    let numbers = edges.numbers;
-    let floats = edges.floats;
-    let uses = wires.uses;
-    let lengths = wires.lengths;
-    let count = wires.count;
     write_beginning();
     let mut from: usize = 0;
     let mut k: usize = 0;
-    while k < count {
-        let n = notation::length_at(&lengths, k);
-        let contour = pipe_shell::uses_from(&uses, from);
-        write_contour(k, &numbers, &floats, &contour, n);
+    while k < wires.count {
+        let n = pipe_shell::length_of(wires, k);
+        write_contour(k, edges, pipe_shell::uses_from(wires, from), n);
         from = notation::plus(from, n);
         k += 1;
     }

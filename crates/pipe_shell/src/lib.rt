@@ -182,13 +182,14 @@ pub fn ends_of_wires() -> [f64; 10] {
 // ---- one wire
 
 // The uses from a place on, with zeros behind them.
-pub fn uses_from(uses: &[u32], from: usize) -> [u32; 8]
-    ensures { λ r. ⌜ (from ≤ 1024 → (k : ℕ) → k < 8 → getD r k 0 ≡ getD (now (uses .entry)) (from + k) 0) ⌝ }
+pub fn uses_from(w: Wires, from: usize) -> [u32; 8]
+    ensures { λ r. ⌜ (from ≤ 1024 → (k : ℕ) → k < 8 → getD r k 0 ≡ getD (w .uses) (from + k) 0) ⌝ }
 {
+    let uses = w.uses;
     let mut wire = [0u32; 8];
     let mut i: usize = 0;
     while i < 8 {
-        wire[i] = notation::at(uses, notation::plus(from, i));
+        wire[i] = notation::at(&uses, notation::plus(from, i));
         i += 1;
     }
     wire
@@ -206,6 +207,5 @@ pub fn length_of(w: Wires, k: usize) -> usize
 pub fn second_of(w: Wires) -> [u32; 8]
     ensures { λ r. ⌜ (getD (w .lengths) 0 0 ≤ 1024 → (k : ℕ) → k < 8 → getD r k 0 ≡ getD (w .uses) (getD (w .lengths) 0 0 + k) 0) ⌝ }
 {
-    let uses = w.uses;
-    uses_from(&uses, length_of(w, 0))
+    uses_from(w, length_of(w, 0))
 }

@@ -68,26 +68,23 @@ fn are_wires_kept(w: Wires, n: usize, before: Wires, m: usize, old: usize) -> bo
 }
 
 // One contour with its tally.
-fn write_contour(out: i32, k: usize, uses: &[u32], n: usize) {
+fn write_contour(out: i32, k: usize, uses: [u32; 8], n: usize) {
     notation::counted(out, b"contour ", k);
     notation::text(out, b":");
-    notation::wire(out, uses, 0, n);
+    notation::wire(out, &uses, 0, n);
     notation::counted(out, b"   tally of ", n);
     notation::text(out, b" uses:");
-    write_tally(out, uses, n);
+    write_tally(out, &uses, n);
 }
 
 // The contours, each with its tally.
 pub fn write_contours(out: i32, s: Shell) {
-    let uses = s.wires.uses;
-    let lengths = s.wires.lengths;
-    let count = s.wires.count;
+    let wires = s.wires;
     let mut from: usize = 0;
     let mut k: usize = 0;
-    while k < count {
-        let n = notation::length_at(&lengths, k);
-        let contour = pipe_shell::uses_from(&uses, from);
-        write_contour(out, k, &contour, n);
+    while k < wires.count {
+        let n = pipe_shell::length_of(wires, k);
+        write_contour(out, k, pipe_shell::uses_from(wires, from), n);
         from = notation::plus(from, n);
         k += 1;
     }

@@ -114,14 +114,20 @@ pub fn done(r: Run, number: u64, at: Place) -> Run
     }
 }
 
+// Writes a count, and a text behind it.
+fn write_count(n: u64, s: &[u8]) {
+    io::print_decimal(STDOUT_FILENO, n);
+    io::write_all(STDOUT_FILENO, s);
+}
+
 // Writes the line of a tally.
-fn write_tally(name: &[u8], t: Tally) {
-    io::write_all(STDOUT_FILENO, name);
-    io::write_all(STDOUT_FILENO, b": ");
-    io::print_decimal(STDOUT_FILENO, t.calls);
-    io::write_all(STDOUT_FILENO, b" calls, ");
-    io::print_decimal(STDOUT_FILENO, t.same);
-    io::write_all(STDOUT_FILENO, b" same\n");
+fn write_tally(name: &[u8], t: [Tally; TALLIES], k: usize) {
+    if k < TALLIES {
+        io::write_all(STDOUT_FILENO, name);
+        io::write_all(STDOUT_FILENO, b": ");
+        write_count(t[k].calls, b" calls, ");
+        write_count(t[k].same, b" same\n");
+    }
 }
 
 fn write_damage(record: u64) {
@@ -132,17 +138,17 @@ fn write_damage(record: u64) {
 
 // Writes a line for each kind of call, and one for the altered records.
 fn write_tallies(t: [Tally; TALLIES]) {
-    write_tally(b"split_closed_edges", t[1]);
-    write_tally(b"get_mindiff", t[2]);
-    write_tally(b"nearest_copy", t[3]);
-    write_tally(b"boundary_type", t[4]);
-    write_tally(b"sort_wires", t[5]);
-    write_tally(b"nearest_correction", t[6]);
-    write_tally(b"find_non_simple_wire_divisor", t[7]);
-    write_tally(b"cut_edge_by_intersections", t[8]);
-    write_tally(b"connect_open_boundaries", t[9]);
-    write_tally(b"split_boundaries_by_divisor", t[10]);
-    write_tally(b"altered", t[ALTERED]);
+    write_tally(b"split_closed_edges", t, 1);
+    write_tally(b"get_mindiff", t, 2);
+    write_tally(b"nearest_copy", t, 3);
+    write_tally(b"boundary_type", t, 4);
+    write_tally(b"sort_wires", t, 5);
+    write_tally(b"nearest_correction", t, 6);
+    write_tally(b"find_non_simple_wire_divisor", t, 7);
+    write_tally(b"cut_edge_by_intersections", t, 8);
+    write_tally(b"connect_open_boundaries", t, 9);
+    write_tally(b"split_boundaries_by_divisor", t, 10);
+    write_tally(b"altered", t, ALTERED);
 }
 
 // Writes how many calls answered the same, or where the list is damaged.

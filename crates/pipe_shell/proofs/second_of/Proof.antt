@@ -6,9 +6,6 @@ use borrow.Author.Needs.{needs}
 use Rattle.pipe_shell.proofs.second_of.Statement.{statement}
 use Rattle.pipe_shell.proofs.second_of.Tie as tie
 
-slice-aggregate-uses-from : tie.Need-slice-aggregate-uses-from
-slice-aggregate-uses-from c = search needs
-
 length-of-requires : tie.Need-length-of-requires
 length-of-requires c κs = search needs
 
@@ -17,9 +14,8 @@ uses-from-requires c κs = search needs
 
 returns : tie.Need-returns
 returns c =
-    let a = c .before .before .before .before .args in
+    let a = c .before .before .args in
     subst (λ (n : ℕ). n ≤ 1024 → (k : ℕ) → k < 8 → getD (c .uses-from .result) k 0 ≡ getD (a .w .uses) (n + k) 0) (c .before .length-of .ensures) (c .uses-from .ensures)
 
 pub second-of-spec : {M : Type 1} → statement M
-second-of-spec =
-    tie.close (tie.spec slice-aggregate-uses-from length-of-requires uses-from-requires returns)
+second-of-spec = tie.close (tie.spec length-of-requires uses-from-requires returns)

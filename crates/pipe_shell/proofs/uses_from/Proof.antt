@@ -9,19 +9,22 @@ use Rattle.pipe_shell.proofs.uses_from.Statement.{statement}
 use Rattle.pipe_shell.proofs.uses_from.Tie as tie
 
 abbrev Inv-loop : tie.InvT-loop
-Inv-loop uses from wire₀ i₀ wire i = (i ≤ 8) × (length wire ≡ 8) × (from ≤ 1024 → Taken uses from wire i)
+Inv-loop from uses wire₀ i₀ wire i = (i ≤ 8) × (length wire ≡ 8) × (from ≤ 1024 → Taken uses from wire i)
 
 abbrev μ-loop : tie.MeasureT-loop
-μ-loop uses from wire₀ i₀ wire i = 8 - i
+μ-loop from uses wire₀ i₀ wire i = 8 - i
 
 loop-holds : tie.Need-loop-holds Inv-loop μ-loop
 loop-holds c = (search needs, refl, λ h k kh. omega arith)
 
+slice-aggregate-at : tie.Need-slice-aggregate-at Inv-loop μ-loop
+slice-aggregate-at c = search needs
+
 plus-requires : tie.Need-plus-requires Inv-loop μ-loop
-plus-requires c κs = search needs
+plus-requires c κs = tt
 
 at-requires : tie.Need-at-requires Inv-loop μ-loop
-at-requires c κs = search needs
+at-requires c κs = tt
 
 mul-wire : tie.Need-mul-wire Inv-loop μ-loop
 mul-wire c = omega arith
@@ -37,14 +40,14 @@ loop-less c = omega arith
 
 loop-again : tie.Need-loop-again Inv-loop μ-loop
 loop-again c =
-    let a = c .before .before .before .before .before .args in
-    let l = c .before .before .before .loop in (
+    let a = c .before .before .before .before .before .before .args in
+    let l = c .before .before .before .before .loop in (
       omega arith,
       simp length-set (l .inv .1),
       λ h.
           let place = c .before .plus .ensures h (omega arith) in
-          let read = c .at .ensures ∙ ap (λ (n : ℕ). getD (a .uses .now) n 0) place in
-          turn (a .uses .now) (l .wire) (a .from) (l .i) (c .at .result) (omega (arith, l .inv .1)) read (l .inv .2 h),
+          let read = c .at .ensures ∙ ap (λ (n : ℕ). getD (a .w .uses) n 0) place in
+          turn (a .w .uses) (l .wire) (a .from) (l .i) (c .at .result) (omega (arith, l .inv .1)) read (l .inv .2 h),
     )
 
 returns : tie.Need-returns Inv-loop μ-loop
@@ -59,6 +62,7 @@ uses-from-spec =
     Inv-loop
     μ-loop
     loop-holds
+    slice-aggregate-at
     plus-requires
     at-requires
     mul-wire

@@ -1,40 +1,30 @@
--- `pipe_tally::write_contours` meets its contract: the loop ends. Assumes nothing.
+-- `pipe_tally::write_contours` is safe: the loop ends. Assumes nothing.
 use Prim.{Unit, tt}
 use Prim.Native.Nat.{_-_}
 use native.Mathlib.Omega.{arith}
-use borrow.Author.Needs.{needs}
 use Rattle.pipe_tally.proofs.write_contours.Statement.{statement}
 use Rattle.pipe_tally.proofs.write_contours.Tie as tie
 
 abbrev Inv-loop : tie.InvT-loop
-Inv-loop out uses lengths count from₀ k₀ from k = Unit {0}
+Inv-loop out wires from₀ k₀ from k = Unit {0}
 
 abbrev μ-loop : tie.MeasureT-loop
-μ-loop out uses lengths count from₀ k₀ from k = count - k
+μ-loop out wires from₀ k₀ from k = wires .count - k
 
 loop-holds : tie.Need-loop-holds Inv-loop μ-loop
 loop-holds c = tt
 
-slice-aggregate-length-at : tie.Need-slice-aggregate-length-at Inv-loop μ-loop
-slice-aggregate-length-at c = search needs
-
-length-at-requires : tie.Need-length-at-requires Inv-loop μ-loop
-length-at-requires c κs = search needs
-
-slice-aggregate-uses-from : tie.Need-slice-aggregate-uses-from Inv-loop μ-loop
-slice-aggregate-uses-from c = search needs
+length-of-requires : tie.Need-length-of-requires Inv-loop μ-loop
+length-of-requires c κs = tt
 
 uses-from-requires : tie.Need-uses-from-requires Inv-loop μ-loop
-uses-from-requires c κs = search needs
-
-slice-aggregate-write-contour : tie.Need-slice-aggregate-write-contour Inv-loop μ-loop
-slice-aggregate-write-contour c = search needs
+uses-from-requires c κs = tt
 
 write-contour-requires : tie.Need-write-contour-requires Inv-loop μ-loop
-write-contour-requires c κs = search needs
+write-contour-requires c κs = tt
 
 plus-requires : tie.Need-plus-requires Inv-loop μ-loop
-plus-requires c κs = search needs
+plus-requires c κs = tt
 
 add-k : tie.Need-add-k Inv-loop μ-loop
 add-k c = omega arith
@@ -46,7 +36,7 @@ loop-again : tie.Need-loop-again Inv-loop μ-loop
 loop-again c = tt
 
 returns : tie.Need-returns Inv-loop μ-loop
-returns c = omega arith
+returns c = tt
 
 pub write-contours-spec : {M : Type 1} → statement M
 write-contours-spec =
@@ -55,11 +45,8 @@ write-contours-spec =
     Inv-loop
     μ-loop
     loop-holds
-    slice-aggregate-length-at
-    length-at-requires
-    slice-aggregate-uses-from
+    length-of-requires
     uses-from-requires
-    slice-aggregate-write-contour
     write-contour-requires
     plus-requires
     add-k

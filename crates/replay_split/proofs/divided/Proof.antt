@@ -1,7 +1,6 @@
 -- `replay_split::divided` meets its contract: each buffer is at most as long as its array. Assumes nothing.
 use mathlib.Core.Path.{sym}
 use lib.Seq.{length-take-le}
-use borrow.Author.Needs.{needs}
 use Rattle.replay_split.proofs.divided.Statement.{statement}
 use Rattle.replay_split.proofs.divided.Tie as tie
 
