@@ -1,5 +1,5 @@
 // The calls for hosts on wires and vertices: nearest ends, and the non-simple search.
-ghost use Rattle.nearest.specs.Ends.{nearestCorrection};
+ghost use Rattle.correction.specs.Correction.{nearestCorrection};
 ghost use Rattle.non_simple.specs.Divisor.{findNonSimple};
 ghost use Rattle.healing.specs.Host.{Told};
 use crate::answers;
@@ -25,7 +25,7 @@ pub extern "C" fn kaugrenna_nearest_correction(
 ) -> i32
     ensures { λ r. ⌜ Told (nearestCorrection (now («vertex_numbers» .entry)) (now («vertex_floats» .entry)) (now («edge_numbers» .entry)) (now («edge_floats» .entry)) (now (first .entry)) (now (second .entry)) vertices edges «first_count» «second_count» v0) (record { v0 = now («v0_out» .entry); v1 = now («v1_out» .entry) }) (record { v0 = now («v0_out» .exit); v1 = now («v1_out» .exit) }) r ⌝ }
 {
-    let answer = nearest::nearest_correction(
+    let answer = correction::nearest_correction(
         vertex_numbers,
         vertex_floats,
         edge_numbers,

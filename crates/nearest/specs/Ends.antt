@@ -1,19 +1,14 @@
--- Nearest ends (`nearest_correction`). Edges and vertices are given by number. Definitions only.
+-- Nearest ends of two stretches. Edges and vertices are given by number. Definitions only.
 use mathlib.Core.List.{List, [], _∷_}
-use Prim.Native.Nat.{ℕ, _+_}
-use lib.Dec.{ltb}
-use lib.ListN.{length, take}
+use Prim.Native.Nat.{ℕ}
 use lib.Ieee.{Float}
 use Rattle.floats.specs.Exact.{distance2Xyz}
 use Rattle.compress.specs.declared.Edge.{Edge}
 use Rattle.compress.specs.declared.Vertex.{Vertex}
 use Rattle.compress.specs.declared.Vertex.the-variants.{Given, Pending}
-use Rattle.compress.specs.Records.{pick, frontAt}
+use Rattle.compress.specs.Records.{frontAt}
 use Rattle.compress.specs.Refusals.{refusalNumber}
-use Rattle.compress.specs.Rows.{edgeAt, vertexAt}
-use Rattle.compress.specs.Said.{Said, result, none, refused, refusedOr}
-use Rattle.checks.specs.Causes.{lowerOf, usesCause, vertexNumberCause}
-use Rattle.points.specs.Tables.{tablesCause}
+use Rattle.compress.specs.Said.{Said, result, none, refused}
 use Rattle.nearest.specs.declared.Xyz.{Xyz}
 use Rattle.nearest.specs.declared.Away.{Away}
 use Rattle.nearest.specs.declared.Ends.{Ends}
@@ -62,24 +57,8 @@ unfoldable pub nearestEnds : (ℕ → Edge) → (ℕ → Vertex) → ℕ → Lis
 nearestEnds es vs v0 first [] = none
 nearestEnds es vs v0 first (u ∷ us) = endsFrom es vs (nearestFront es vs v0 u us) first
 
--- ---- the call
-
--- two stretches of n and m uses: "a count .. is above what was lent", "1,024 uses in all wires of a call", and their edge numbers
-unfoldable pub stretchesCause : ℕ → List ℕ → ℕ → List ℕ → ℕ → ℕ
-stretchesCause edges a n b m =
-    pick (ltb (length a) n) 1
-    (pick (ltb (length b) m) 1
-    (pick (ltb 1024 (n + m)) 1 (lowerOf (usesCause edges a n) (usesCause edges b m))))
-
-unfoldable pub endsCause : List ℕ → List Float → List ℕ → List Float → List ℕ → List ℕ → ℕ → ℕ → ℕ → ℕ → ℕ → ℕ
-endsCause vn vf en ef a b v e n m v0 =
-    lowerOf (tablesCause vn vf en ef v e) (lowerOf (vertexNumberCause v v0) (stretchesCause e a n b m))
-
+-- what the code answers
 abbrev pub saidEnds : Ends → Said Divisor
 saidEnds (Between v0 v1) = result (record { v0 = v0; v1 = v1 })
 saidEnds NoEnds = none
 saidEnds (EndsRefused r) = refused (refusalNumber r)
-
-unfoldable pub nearestCorrection : List ℕ → List Float → List ℕ → List Float → List ℕ → List ℕ → ℕ → ℕ → ℕ → ℕ → ℕ → Said Divisor
-nearestCorrection vn vf en ef a b v e n m v0 =
-    refusedOr (endsCause vn vf en ef a b v e n m v0) (nearestEnds (edgeAt en ef) (vertexAt vn vf) v0 (take n a) (take m b))

@@ -1,9 +1,9 @@
-// Document 000, `split_closed_faces.rs`: nearest ends.
+// Document 000, `split_closed_faces.rs`: the nearest ends of two stretches, over tables and stretches that were checked.
 ghost use mathlib.Core.Path.{_≡_};
 ghost use Prim.Native.Nat.{ℕ, _+_, _*_, _/_, _≤_, _<_};
 ghost use lib.ListN.{length, getD, drop};
 ghost use Rattle.compress.specs.Choice.{smaller};
-ghost use Rattle.nearest.specs.Ends.{pointOf, pointGap, awayAt, gapOf, nearestFront, nearestEnds, saidEnds, stretchesCause, endsCause, nearestCorrection};
+ghost use Rattle.nearest.specs.Ends.{pointOf, pointGap, awayAt, gapOf, nearestFront, nearestEnds, saidEnds};
 ghost use Rattle.checks.specs.Causes.{verticesCause, edgesCause};
 ghost use Rattle.compress.specs.Rows.{edgeAt, vertexAt};
 use compress::Refusal;
@@ -98,7 +98,7 @@ fn nearest_front(
     best.vertex
 }
 
-// Nearest ends of two stretches, over tables and stretches that were checked.
+// From v0 the nearest front of the second stretch, from there the nearest front of the first.
 pub fn nearest_ends(
     vertex_numbers: &[u32],
     vertex_floats: &[f64],
@@ -142,96 +142,4 @@ pub fn nearest_ends(
         v1,
     );
     Ends::Between(w0, v1)
-}
-
-fn stretches_cause(edges: usize, a: &[u32], n: usize, b: &[u32], m: usize) -> u32
-    ensures { λ r. ⌜ r ≡ stretchesCause edges (now (a .entry)) n (now (b .entry)) m ⌝ }
-{
-    if a.len() < n {
-        return 1;
-    }
-    if b.len() < m {
-        return 1;
-    }
-    if n > 1024 {
-        return 1;
-    }
-    if m > 1024 - n {
-        return 1;
-    }
-    let x = checks::use_rows(edges, a, n);
-    let y = checks::use_rows(edges, b, m);
-    checks::lower(x, y)
-}
-
-fn ends_cause(
-    vertex_numbers: &[u32],
-    vertex_floats: &[f64],
-    edge_numbers: &[u32],
-    edge_floats: &[f64],
-    first: &[u32],
-    second: &[u32],
-    vertices: usize,
-    edges: usize,
-    n: usize,
-    m: usize,
-    v0: u32,
-) -> u32
-    ensures { λ r. ⌜ r ≡ endsCause (now («vertex_numbers» .entry)) (now («vertex_floats» .entry)) (now («edge_numbers» .entry)) (now («edge_floats» .entry)) (now (first .entry)) (now (second .entry)) vertices edges n m v0 ⌝ }
-{
-    let t = points::tables_cause(
-        vertex_numbers,
-        vertex_floats,
-        edge_numbers,
-        edge_floats,
-        vertices,
-        edges,
-    );
-    let w = stretches_cause(edges, first, n, second, m);
-    checks::lower(t, checks::lower(checks::vertex_number(vertices, v0), w))
-}
-
-// `nearest_correction`: from v0 the nearest front of the second stretch, from there the nearest front of the first.
-pub fn nearest_correction(
-    vertex_numbers: &[u32],
-    vertex_floats: &[f64],
-    edge_numbers: &[u32],
-    edge_floats: &[f64],
-    first: &[u32],
-    second: &[u32],
-    vertices: usize,
-    edges: usize,
-    n: usize,
-    m: usize,
-    v0: u32,
-) -> Ends
-    ensures { λ r. ⌜ saidEnds r ≡ nearestCorrection (now («vertex_numbers» .entry)) (now («vertex_floats» .entry)) (now («edge_numbers» .entry)) (now («edge_floats» .entry)) (now (first .entry)) (now (second .entry)) vertices edges n m v0 ⌝ }
-{
-    let cause = ends_cause(
-        vertex_numbers,
-        vertex_floats,
-        edge_numbers,
-        edge_floats,
-        first,
-        second,
-        vertices,
-        edges,
-        n,
-        m,
-        v0,
-    );
-    if cause != 0 {
-        return Ends::EndsRefused(compress::refusal_of(cause));
-    }
-    nearest_ends(
-        vertex_numbers,
-        vertex_floats,
-        edge_numbers,
-        edge_floats,
-        vertices,
-        edges,
-        &first[..n],
-        &second[..m],
-        v0,
-    )
 }

@@ -15,10 +15,10 @@ fn asks_picture() -> bool {
 
 // The wires of the two rims with the seam between them, as one wire.
 fn joined(out: i32, cut: Shell) -> Shell {
-    if !pipe_rims::sort(out, cut) {
+    if !pipe_ends::sort(out, cut) {
         return pipe_shell::stopped(cut);
     }
-    let d = pipe_rims::nearest_ends(out, cut);
+    let d = pipe_ends::nearest_ends(out, cut);
     if !d.is_found {
         return pipe_shell::stopped(cut);
     }
@@ -27,14 +27,14 @@ fn joined(out: i32, cut: Shell) -> Shell {
         return seamed;
     }
     writing::write_shell(out, seamed, cut.edges.count);
-    let joined = pipe_seam::join_rims(out, cut.wires, seamed, d);
+    let joined = pipe_join::join_rims(out, cut.wires, seamed, d);
     writing::write_wires(out, joined.wires);
     joined
 }
 
 // The wire divided along the vertices that the search finds.
 fn divided(out: i32, joined: Shell) -> Shell {
-    let d = pipe_seam::search(out, joined);
+    let d = pipe_ends::search(out, joined);
     if !d.is_found {
         return pipe_shell::stopped(joined);
     }

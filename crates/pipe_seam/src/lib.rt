@@ -1,17 +1,12 @@
-// The steps of the healing from the seam on, each a call of the port: the split with the seam, the join of the rims, the search, and the
-// second split. What a call answers is written, and the shell comes back as the step leaves it.
+// The two splits of the healing: with the seam between the rims, and along the vertices of the search. What the call answers is written, and
+// the shell comes back as the step leaves it.
 ghost use mathlib.Core.Path.{_≡_};
-ghost use mathlib.Core.Bool.{false};
-use joined::Join;
 use periodic::NearestCopy;
 use periodic::Period;
-use pipe_rims::Divisor;
+use pipe_ends::Divisor;
 use pipe_shell::Shell;
-use pipe_shell::Wires;
 use pipe_shell::writing;
 use split::Boundaries;
-
-// ---- the two splits
 
 // The uv points of the two vertices: the second's is the copy of it that is nearest to the first's.
 fn seam_points(d: Divisor) -> [f64; 4] {
@@ -93,99 +88,4 @@ pub fn split_again(out: i32, s: Shell, d: Divisor) -> Shell
 {
     notation::text(out, b"7. second split:");
     split_along(out, s, d, s.wires.count)
-}
-
-// ---- the join and the search
-
-// The shell after the join.
-fn after_join(out: i32, answer: Join, s: Shell) -> Shell
-    ensures { λ r. ⌜ (r .vertices ≡ s .vertices) × (r .edges ≡ s .edges) ⌝ }
-{
-    match answer {
-        Join::Joined(_) => {
-            notation::text(out, b" the rims and the seam are one wire\n");
-            s
-        }
-        Join::NoJoin => {
-            notation::text(out, b" none\n");
-            pipe_shell::stopped(s)
-        }
-        Join::JoinRefused(r) => {
-            writing::write_refusal(out, r);
-            pipe_shell::stopped(s)
-        }
-    }
-}
-
-// The join of two open wires with the shell's wires.
-fn join_open(
-    out: i32,
-    s: Shell,
-    first: &[u32],
-    n: usize,
-    second: &[u32],
-    m: usize,
-    d: Divisor,
-) -> Shell
-    ensures { λ r. ⌜ (r .vertices ≡ s .vertices) × (r .edges ≡ s .edges) ⌝ }
-{
-    let edge_numbers = s.edges.numbers;
-    let edge_floats = s.edges.floats;
-    let mut uses = s.wires.uses;
-    let mut lengths = s.wires.lengths;
-    let answer = join::connect_open_boundaries(
-        &edge_numbers,
-        &edge_floats,
-        first,
-        second,
-        &mut uses,
-        &mut lengths,
-        s.vertices.count,
-        s.edges.count,
-        n,
-        m,
-        s.wires.count,
-        d.v0,
-        d.v1,
-    );
-    let wires = pipe_shell::wire_table(uses, lengths, s.wires.count);
-    let left = pipe_shell::shell_of(s.vertices, s.edges, wires);
-    after_join(out, answer, left)
-}
-
-// Joins the two rims with the seam's wire, which the shell has now.
-pub fn join_rims(out: i32, rims: Wires, s: Shell, d: Divisor) -> Shell
-    ensures { λ r. ⌜ (r .vertices ≡ s .vertices) × (r .edges ≡ s .edges) ⌝ }
-{
-    notation::text(out, b"5. join:");
-    let n = pipe_shell::length_of(rims, 0);
-    let m = pipe_shell::length_of(rims, 1);
-    let first = rims.uses;
-    let second = pipe_shell::second_of(rims);
-    join_open(out, s, &first, n, &second, m, d)
-}
-
-// The two vertices that divide the wire that uses the seam twice.
-pub fn search(out: i32, s: Shell) -> Divisor
-    ensures { λ r. ⌜ (r .«is_found» ≡ false → (r .v0 ≡ 0) × (r .v1 ≡ 0)) ⌝ }
-{
-    notation::text(out, b"6. non-simple search:");
-    let vertex_numbers = s.vertices.numbers;
-    let vertex_floats = s.vertices.floats;
-    let edge_numbers = s.edges.numbers;
-    let edge_floats = s.edges.floats;
-    let uses = s.wires.uses;
-    let lengths = s.wires.lengths;
-    let answer = non_simple::find_non_simple_wire_divisor(
-        &vertex_numbers,
-        &vertex_floats,
-        &edge_numbers,
-        &edge_floats,
-        &uses,
-        &lengths,
-        s.vertices.count,
-        s.edges.count,
-        s.wires.count,
-    );
-    pipe_rims::divisor_of(out, answer)
 }

@@ -102,7 +102,7 @@ fn correction(c: Counts, a: Start, s: Shell) -> Answer
     let e4 = s.edges.floats.count;
     let e5 = s.wires.first.count;
     let e6 = s.wires.second.count;
-    let ends = nearest::nearest_correction(
+    let ends = correction::nearest_correction(
         &vertex_numbers[..e1],
         &vertex_floats[..e2],
         &edge_numbers[..e3],

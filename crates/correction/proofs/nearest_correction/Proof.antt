@@ -1,11 +1,11 @@
--- `nearest::nearest_correction` meets its contract. Assumes nothing.
+-- `correction::nearest_correction` meets its contract. Assumes nothing.
 use mathlib.Core.Path.{sym, _∙_}
 use borrow.Author.Needs.{needs}
 use Rattle.checks.proofs.Small.{refuses, answers}
-use Rattle.nearest.specs.Ends.{nearestCorrection}
-use Rattle.nearest.proofs.Accepted.{ends-accepted, ends-small}
-use Rattle.nearest.proofs.nearest_correction.Statement.{statement}
-use Rattle.nearest.proofs.nearest_correction.Tie as tie
+use Rattle.correction.specs.Correction.{nearestCorrection}
+use Rattle.correction.proofs.Accepted.{ends-accepted, ends-small}
+use Rattle.correction.proofs.nearest_correction.Statement.{statement}
+use Rattle.correction.proofs.nearest_correction.Tie as tie
 
 ends-cause-requires : tie.Need-ends-cause-requires
 ends-cause-requires c κs = search needs

@@ -1,8 +1,8 @@
--- `nearest::ends_cause` meets its contract. Assumes nothing.
+-- `correction::ends_cause` meets its contract. Assumes nothing.
 use borrow.Author.Needs.{needs}
-use Rattle.nearest.specs.Ends.{endsCause}
-use Rattle.nearest.proofs.ends_cause.Statement.{statement}
-use Rattle.nearest.proofs.ends_cause.Tie as tie
+use Rattle.correction.specs.Correction.{endsCause}
+use Rattle.correction.proofs.ends_cause.Statement.{statement}
+use Rattle.correction.proofs.ends_cause.Tie as tie
 
 tables-cause-requires : tie.Need-tables-cause-requires
 tables-cause-requires c κs = search needs

@@ -1,9 +1,9 @@
--- `pipe_seam::after_join` meets its contract: the vertices and edges are those of the shell that it is handed. Assumes nothing.
+-- `pipe_join::after_join` meets its contract: the vertices and edges are those of the shell that it is handed. Assumes nothing.
 use mathlib.Core.Path.{refl, ap}
 use borrow.Author.Needs.{needs}
 use Rattle.pipe_shell.specs.declared.Shell.{Shell}
-use Rattle.pipe_seam.proofs.after_join.Statement.{statement}
-use Rattle.pipe_seam.proofs.after_join.Tie as tie
+use Rattle.pipe_join.proofs.after_join.Statement.{statement}
+use Rattle.pipe_join.proofs.after_join.Tie as tie
 
 enum-told : tie.Need-enum-told
 enum-told c = search needs

@@ -1,11 +1,11 @@
--- `nearest::stretches_cause` meets its contract. Assumes nothing.
+-- `correction::stretches_cause` meets its contract. Assumes nothing.
 use native.Mathlib.Omega.{arith}
 use Prim.Native.Nat.{_+_, _≤_, _<_}
 use borrow.Author.Tests.{lt-ltb, le-ltb}
 use borrow.Author.Needs.{needs}
-use Rattle.nearest.specs.Ends.{stretchesCause}
-use Rattle.nearest.proofs.stretches_cause.Statement.{statement}
-use Rattle.nearest.proofs.stretches_cause.Tie as tie
+use Rattle.correction.specs.Correction.{stretchesCause}
+use Rattle.correction.proofs.stretches_cause.Statement.{statement}
+use Rattle.correction.proofs.stretches_cause.Tie as tie
 
 returns : tie.Need-returns
 unfolding stretchesCause

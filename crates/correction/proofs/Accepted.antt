@@ -14,7 +14,7 @@ use Rattle.checks.proofs.Accepted.{passed, not-when, uses-in}
 use Rattle.checks.proofs.Lowest.{lower-none}
 use Rattle.checks.proofs.Small.{lower-small, pick-small, uses-small, vertex-number-small}
 use Rattle.points.proofs.Accepted.{TablesAccepted, tables-accepted, tables-small}
-use Rattle.nearest.specs.Ends.{stretchesCause, endsCause}
+use Rattle.correction.specs.Correction.{stretchesCause, endsCause}
 use Rattle.points.specs.Tables.{tablesCause}
 
 -- a stretch without a cause: its front of n uses

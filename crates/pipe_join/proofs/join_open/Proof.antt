@@ -1,9 +1,9 @@
--- `pipe_seam::join_open` meets its contract: the join makes no vertex and no edge. Assumes nothing.
+-- `pipe_join::join_open` meets its contract: the join makes no vertex and no edge. Assumes nothing.
 use mathlib.Core.Path.{ap, _∙_}
 use borrow.Author.Needs.{needs}
 use Rattle.pipe_shell.specs.declared.Shell.{Shell}
-use Rattle.pipe_seam.proofs.join_open.Statement.{statement}
-use Rattle.pipe_seam.proofs.join_open.Tie as tie
+use Rattle.pipe_join.proofs.join_open.Statement.{statement}
+use Rattle.pipe_join.proofs.join_open.Tie as tie
 
 slice-aggregate-connect-open-boundaries : tie.Need-slice-aggregate-connect-open-boundaries
 slice-aggregate-connect-open-boundaries c = search needs

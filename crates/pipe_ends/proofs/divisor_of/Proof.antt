@@ -1,9 +1,9 @@
--- `pipe_rims::divisor_of` meets its contract: where no vertices are found both numbers are 0. Assumes nothing.
+-- `pipe_ends::divisor_of` meets its contract: where no vertices are found both numbers are 0. Assumes nothing.
 use mathlib.Core.Path.{subst}
 use lib.Dec.{T}
 use borrow.Author.Needs.{needs}
-use Rattle.pipe_rims.proofs.divisor_of.Statement.{statement}
-use Rattle.pipe_rims.proofs.divisor_of.Tie as tie
+use Rattle.pipe_ends.proofs.divisor_of.Statement.{statement}
+use Rattle.pipe_ends.proofs.divisor_of.Tie as tie
 
 enum-known-answer : tie.Need-enum-known-answer
 enum-known-answer c = search needs
