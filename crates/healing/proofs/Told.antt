@@ -1,14 +1,12 @@
 -- What a host is told, from what the call answers.
 -- Assumes nothing.
 use mathlib.Core.Path.{_≡_, refl, ap, sym, _∙_}
-use Prim.Native.Nat.{ℕ, _≤_, _<_}
-use native.Mathlib.Omega.{arith}
+use Prim.Native.Nat.{ℕ}
 use lib.IntN.{ℤ, pos, negsuc}
 use mir.Syntax.{w32}
 use mir.Val.{toZ, ofZ}
 use mir.Facts.{toZ-ofZ}
 use Rattle.compress.specs.declared.Refusal.{Refusal}
-use Rattle.compress.specs.declared.Refusal.the-variants.{Malformed, VertexNumber, EdgeNumber, NotSized, OutOfRange, NoRoom, PendingVertex, PastEnd, OddDivisor, RepeatedVertex, DeadEnd, TooManyUses, EmptyList, SeveralCuts, EmptyOpenWire}
 use Rattle.compress.specs.Refusals.{refusalNumber}
 use Rattle.compress.specs.Said.{Said, result, none, refused}
 use Rattle.compress.specs.Shell.{Counts}
@@ -16,28 +14,8 @@ use Rattle.cutting.specs.Contract.{Outcome}
 use Rattle.joined.specs.Outcome.{JoinOutcome}
 use Rattle.wire_kinds.specs.Kinds.{SortOutcome}
 use Rattle.split.specs.Contract.{SplitCounts, SplitOutcome}
+use Rattle.host_numbers.proofs.Fits.{number-fits}
 use Rattle.healing.specs.Host.{codeOf, placesAfter, Told, HostShell, HostJoin, HostBoundaries, HostSort}
-
-number-small : (r : Refusal) → refusalNumber r ≤ 15
-number-small Malformed = omega arith
-number-small VertexNumber = omega arith
-number-small EdgeNumber = omega arith
-number-small NotSized = omega arith
-number-small OutOfRange = omega arith
-number-small NoRoom = omega arith
-number-small PendingVertex = omega arith
-number-small PastEnd = omega arith
-number-small OddDivisor = omega arith
-number-small RepeatedVertex = omega arith
-number-small DeadEnd = omega arith
-number-small TooManyUses = omega arith
-number-small EmptyList = omega arith
-number-small SeveralCuts = omega arith
-number-small EmptyOpenWire = omega arith
-
--- a refusal's number fits an i32
-pub number-fits : (k : Refusal) (n : ℕ) → n ≡ refusalNumber k → n < 2147483648
-number-fits k n e = omega (arith, number-small k)
 
 -- a refusal's number comes back from an i32 as it is
 code-kept : (k : Refusal) (z : ℤ) → z ≡ pos (refusalNumber k) → toZ w32 (ofZ w32 z) ≡ pos (refusalNumber k)

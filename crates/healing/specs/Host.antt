@@ -2,27 +2,18 @@
 use mathlib.Core.Path.{_≡_}
 use mathlib.Core.List.{List}
 use Prim.Native.Nat.{ℕ}
-use lib.Dec.{eqb}
 use lib.Ieee.{Float}
 use lib.IntN.{ℤ, pos, negsuc}
 use Rattle.compress.specs.declared.Uv.{Uv}
-use Rattle.compress.specs.Records.{pick}
-use Rattle.compress.specs.Refusals.{refusalNumber}
 use Rattle.compress.specs.Said.{Said, result, none, refused, onResult}
 use Rattle.compress.specs.Shell.{Slices, Counts}
 use Rattle.cutting.specs.Contract.{Outcome}
 use Rattle.joined.specs.Outcome.{JoinOutcome}
 use Rattle.split.specs.Contract.{SplitCounts, SplitOutcome}
 use Rattle.split_causes.specs.Causes.{Buffers}
-use Rattle.periodic.specs.declared.Period.{Period}
-use Rattle.periodic.specs.declared.Period.the-variants.{Absent, Every}
 use Rattle.wire_kinds.specs.declared.BoundaryType.{BoundaryType}
-use Rattle.wire_kinds.specs.declared.BoundaryType.the-variants.{Positive, Negative, NotClosed}
-use Rattle.periodic.specs.Unwrap.{getMindiff}
-use Rattle.periodic.specs.Copies.{nearestCopySaid}
+use Rattle.host_numbers.specs.Numbers.{boundaryNumber}
 use Rattle.wire_kinds.specs.Kinds.{SortOutcome, boundaryTypeSaid}
-use Rattle.healing.specs.declared.periods.Asked.{Asked}
-use Rattle.healing.specs.declared.periods.Asked.the-variants.{Known, Unknown}
 
 -- 0 for a result, -1 for "none", and a refusal's own number
 abbrev pub codeOf : {A : Type 0} → Said A → ℤ
@@ -57,31 +48,7 @@ pub record HostBoundaries (o : SplitOutcome) (before after : SplitCounts) (buffe
   pub told : Told (o .said) before after r
   pub lent : buffers ≡ o .buffers
 
--- ---- periods: kind 0 is absent, kind 1 is the number; 1, "a kind field holds no known kind"
-unfoldable pub periodSaid : ℕ → Float → Said Period
-periodSaid kind p = pick (eqb kind 0) (result Absent) (pick (eqb kind 1) (result (Every p)) (refused 1))
-
-abbrev pub saidPeriod : Asked → Said Period
-saidPeriod (Known p) = result p
-saidPeriod (Unknown r) = refused (refusalNumber r)
-
--- ---- unwrapping, for a host
-unfoldable pub hostMindiff : Float → Float → ℕ → Float → Said Float
-hostMindiff u u0 kind p = onResult (periodSaid kind p) (getMindiff u u0)
-
--- ---- the nearest copy, for a host: the period in u, and then that in v
-unfoldable pub hostCopyAlong : Uv → Uv → ℕ → Float → Period → Said Uv
-hostCopyAlong p q vk v up = onResult (periodSaid vk v) (nearestCopySaid p q up)
-
-unfoldable pub hostCopy : Uv → Uv → ℕ → Float → ℕ → Float → Said Uv
-hostCopy p q uk u vk v = onResult (periodSaid uk u) (hostCopyAlong p q vk v)
-
 -- ---- the kind of a wire, for a host
-abbrev pub boundaryNumber : BoundaryType → ℕ
-boundaryNumber Positive = 0
-boundaryNumber Negative = 1
-boundaryNumber NotClosed = 2
-
 abbrev pub numbered : Said BoundaryType → Said ℕ
 numbered s = onResult s (λ t. result (boundaryNumber t))
 

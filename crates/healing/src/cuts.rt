@@ -2,7 +2,6 @@
 ghost use Rattle.cutting.specs.Contract.{lentOf};
 ghost use Rattle.one_cut.specs.Contract.{cutOutcome};
 ghost use Rattle.healing.specs.Host.{HostShell};
-use crate::answers;
 use cutting::Split;
 
 // Edge number `edge` is cut by the cuts in `cuts`, four floats each: parameter, x, y, z. No cut changes nothing, one cuts the edge and mends
@@ -53,6 +52,6 @@ pub extern "C" fn kaugrenna_cut_edge_by_intersections(
             *uses_out = n;
             0
         }
-        Split::Refused(r) => answers::refusal_code(r),
+        Split::Refused(r) => host_numbers::refusal_code(r),
     }
 }

@@ -1,7 +1,6 @@
 // The call for hosts that joins two open wires.
 ghost use Rattle.join.specs.Contract.{joinOutcome};
 ghost use Rattle.healing.specs.Host.{HostJoin};
-use crate::answers;
 use joined::Join;
 
 // The two open wires and the first new wire that holds v0 become one wire, which replaces that new wire, in place. 0: done, and the place holds
@@ -46,6 +45,6 @@ pub extern "C" fn kaugrenna_connect_open_boundaries(
             0
         }
         Join::NoJoin => -1,
-        Join::JoinRefused(r) => answers::refusal_code(r),
+        Join::JoinRefused(r) => host_numbers::refusal_code(r),
     }
 }

@@ -1,23 +1,9 @@
 // The calls for hosts on the kind of a wire: the kind of one, and the sorting of wires into open and closed ones.
-ghost use mathlib.Core.Path.{_≡_};
 ghost use Rattle.wire_kinds.specs.Kinds.{sortWires};
-ghost use Rattle.healing.specs.Host.{Told, HostSort, boundaryNumber, hostKind};
-use crate::answers;
+ghost use Rattle.healing.specs.Host.{Told, HostSort, hostKind};
 use compress::Uv;
-use wire_kinds::BoundaryType;
 use wire_kinds::Sorted;
 use wire_kinds::WireKind;
-
-// The number of a kind of wire.
-fn boundary_number(t: BoundaryType) -> u32
-    ensures { λ r. ⌜ r ≡ boundaryNumber t ⌝ }
-{
-    match t {
-        BoundaryType::Positive => 0,
-        BoundaryType::Negative => 1,
-        BoundaryType::NotClosed => 2,
-    }
-}
 
 // The kind of a wire, from its first point, its last point and its area. 0: done, and `kind_out` holds 0 for Positive, 1 for Negative
 // and 2 for NotClosed. Else the number of the refusal, and `kind_out` is not changed.
@@ -37,10 +23,10 @@ pub extern "C" fn kaugrenna_boundary_type(
     let answer = wire_kinds::boundary_type(a, b, area);
     match answer {
         WireKind::Is(t) => {
-            *kind_out = boundary_number(t);
+            *kind_out = host_numbers::boundary_number(t);
             0
         }
-        WireKind::NoKind(r) => answers::refusal_code(r),
+        WireKind::NoKind(r) => host_numbers::refusal_code(r),
     }
 }
 
@@ -63,6 +49,6 @@ pub extern "C" fn kaugrenna_sort_wires(
             0
         }
         Sorted::Nothing => -1,
-        Sorted::Unsorted(r) => answers::refusal_code(r),
+        Sorted::Unsorted(r) => host_numbers::refusal_code(r),
     }
 }

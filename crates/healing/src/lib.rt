@@ -1,5 +1,4 @@
 // The calls for hosts in C and Rust: numbers and slices, and an i32 for the answer. Here the closed-edge pass; the modules have the others.
-mod answers;
 mod cuts;
 mod joins;
 mod kinds;
@@ -53,6 +52,6 @@ pub extern "C" fn kaugrenna_split_closed_edges(
             *uses_out = n;
             0
         }
-        Split::Refused(r) => answers::refusal_code(r),
+        Split::Refused(r) => host_numbers::refusal_code(r),
     }
 }

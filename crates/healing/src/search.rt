@@ -2,7 +2,6 @@
 ghost use Rattle.correction.specs.Correction.{nearestCorrection};
 ghost use Rattle.non_simple.specs.Divisor.{findNonSimple};
 ghost use Rattle.healing.specs.Host.{Told};
-use crate::answers;
 use nearest::Ends;
 
 // From v0 the nearest front of the second stretch, from there the nearest front of the first. 0: done, and the two places hold a vertex of the
@@ -45,7 +44,7 @@ pub extern "C" fn kaugrenna_nearest_correction(
             0
         }
         Ends::NoEnds => -1,
-        Ends::EndsRefused(r) => answers::refusal_code(r),
+        Ends::EndsRefused(r) => host_numbers::refusal_code(r),
     }
 }
 
@@ -85,6 +84,6 @@ pub extern "C" fn kaugrenna_find_non_simple_wire_divisor(
             0
         }
         Ends::NoEnds => -1,
-        Ends::EndsRefused(r) => answers::refusal_code(r),
+        Ends::EndsRefused(r) => host_numbers::refusal_code(r),
     }
 }

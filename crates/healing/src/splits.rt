@@ -2,7 +2,6 @@
 ghost use Rattle.split_causes.specs.Causes.{lentSplit};
 ghost use Rattle.split.specs.Contract.{splitOutcome};
 ghost use Rattle.healing.specs.Host.{HostBoundaries};
-use crate::answers;
 use split::Boundaries;
 
 // The wires to be rebuilt are rebuilt along the divisor, a list of vertices with their uv points, two floats each: the new edges are appended to the
@@ -61,6 +60,6 @@ pub extern "C" fn kaugrenna_split_boundaries_by_divisor(
             *edges_out = e;
             0
         }
-        Boundaries::SplitRefused(r) => answers::refusal_code(r),
+        Boundaries::SplitRefused(r) => host_numbers::refusal_code(r),
     }
 }

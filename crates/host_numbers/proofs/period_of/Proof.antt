@@ -1,8 +1,8 @@
--- `healing::periods::period_of` meets its contract. Assumes nothing.
+-- `host_numbers::period_of` meets its contract. Assumes nothing.
 use borrow.Author.Tests.{ne-eqb}
-use Rattle.healing.specs.Host.{periodSaid}
-use Rattle.healing.proofs.periods.period_of.Statement.{statement}
-use Rattle.healing.proofs.periods.period_of.Tie as tie
+use Rattle.host_numbers.specs.Numbers.{periodSaid}
+use Rattle.host_numbers.proofs.period_of.Statement.{statement}
+use Rattle.host_numbers.proofs.period_of.Tie as tie
 
 returns : tie.Need-returns
 unfolding periodSaid

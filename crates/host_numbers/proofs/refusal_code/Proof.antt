@@ -1,12 +1,12 @@
--- `healing::answers::refusal_code` meets its contract. Assumes nothing.
+-- `host_numbers::refusal_code` meets its contract. Assumes nothing.
 use mathlib.Core.Path.{ap, _∙_}
 use lib.IntN.{pos}
 use mir.Syntax.{w32}
 use mir.Facts.{toZ-pos}
 use borrow.Author.Needs.{needs}
-use Rattle.healing.proofs.Told.{number-fits}
-use Rattle.healing.proofs.answers.refusal_code.Statement.{statement}
-use Rattle.healing.proofs.answers.refusal_code.Tie as tie
+use Rattle.host_numbers.proofs.Fits.{number-fits}
+use Rattle.host_numbers.proofs.refusal_code.Statement.{statement}
+use Rattle.host_numbers.proofs.refusal_code.Tie as tie
 
 refusal-number-requires : tie.Need-refusal-number-requires
 refusal-number-requires c κs = search needs

@@ -5,9 +5,9 @@ use Rattle.compress.specs.declared.Refusal.{Refusal}
 use Rattle.compress.specs.Refusals.{refusalNumber}
 use Rattle.compress.specs.Said.{Said, result, refused, onResult}
 use Rattle.periodic.specs.declared.Period.{Period}
-use Rattle.healing.specs.declared.periods.Asked.{Asked}
-use Rattle.healing.specs.declared.periods.Asked.the-variants.{Known, Unknown}
-use Rattle.healing.specs.Host.{saidPeriod}
+use Rattle.host_numbers.specs.declared.Asked.{Asked}
+use Rattle.host_numbers.specs.declared.Asked.the-variants.{Known, Unknown}
+use Rattle.host_numbers.specs.Numbers.{saidPeriod}
 
 module _ {A : Type 0} (g : Period → Said A) {a : Asked} {s : Said Period} (q : saidPeriod a ≡ s) where
   pub asked-known : {p : Period} {x : Said A} → a ≡ Known p → x ≡ g p → x ≡ onResult s g

@@ -1,9 +1,9 @@
--- `healing::periods::unwrap_asked` meets its contract. Assumes nothing.
+-- `host_numbers::unwrap_asked` meets its contract. Assumes nothing.
 use borrow.Author.Needs.{needs}
-use Rattle.healing.specs.Host.{hostMindiff}
-use Rattle.healing.proofs.Asked.{asked-known, asked-unknown}
-use Rattle.healing.proofs.periods.unwrap_asked.Statement.{statement}
-use Rattle.healing.proofs.periods.unwrap_asked.Tie as tie
+use Rattle.host_numbers.specs.Numbers.{hostMindiff}
+use Rattle.host_numbers.proofs.Periods.{asked-known, asked-unknown}
+use Rattle.host_numbers.proofs.unwrap_asked.Statement.{statement}
+use Rattle.host_numbers.proofs.unwrap_asked.Tie as tie
 
 period-of-requires : tie.Need-period-of-requires
 period-of-requires c κs = search needs
