@@ -22,6 +22,12 @@ use Rattle.compress.specs.Layout.{Layout}
 unfoldable pub curveOf : ℕ → ℕ → Uv → Uv → Float → Float → Curve
 curveOf kind n p q a b = pick (eqb kind 0) (Span n a b) (Seam n p q a b)
 
+-- the curve of a kind and a number, with its floats from cell j on
+abbrev pub curveAt : ℕ → ℕ → List Float → ℕ → Curve
+curveAt kind n fs j =
+    curveOf kind n (record { u = getD fs j nan; v = getD fs (j + 1) nan }) (record { u = getD fs (j + 2) nan; v = getD fs (j + 3) nan })
+    (getD fs (j + 4) nan) (getD fs (j + 5) nan)
+
 unfoldable pub edgeOf : ℕ → ℕ → ℕ → ℕ → Float → Float → Float → Float → Float → Float → Edge
 edgeOf f b k n u0 v0 u1 v1 t0 t1 =
     record { front = f; back = b; curve = curveOf k n (record { u = u0; v = v0 }) (record { u = u1; v = v1 }) t0 t1 }

@@ -5,7 +5,7 @@ ghost use lib.ListN.{length};
 ghost use Rattle.compress.specs.Records.{frontOf, frontAt};
 ghost use Rattle.compress.specs.Refusals.{refusalNumber, refusalOf};
 ghost use Rattle.compress.specs.Layout.{put};
-ghost use Rattle.compress.specs.Rows.{curveOf, edgeOf, edgeAt, vertexOf, vertexAt};
+ghost use Rattle.compress.specs.Rows.{curveOf, curveAt, edgeAt, vertexAt};
 
 // A point of a surface's parameter plane.
 pub struct Uv {
@@ -134,51 +134,20 @@ fn curve_of(kind: u32, number: u32, p: Uv, q: Uv, t0: f64, t1: f64) -> Curve
     }
 }
 
-fn edge_of(
-    front: u32,
-    back: u32,
-    kind: u32,
-    number: u32,
-    u0: f64,
-    v0: f64,
-    u1: f64,
-    v1: f64,
-    t0: f64,
-    t1: f64,
-) -> Edge
-    ensures { λ r. ⌜ r ≡ edgeOf front back kind number u0 v0 u1 v1 t0 t1 ⌝ }
+// The curve of a kind and a number, with its floats from place j on.
+fn curve_at(kind: u32, number: u32, floats: &[f64], j: usize) -> Curve
+    requires { ⌜ j + 6 ≤ length (now floats) ⌝ }
+    ensures { λ r. ⌜ r ≡ curveAt kind number (now (floats .entry)) j ⌝ }
 {
-    let p = Uv { u: u0, v: v0 };
-    let q = Uv { u: u1, v: v1 };
-    let curve = curve_of(kind, number, p, q, t0, t1);
-    Edge { front, back, curve }
-}
-
-fn vertex_of(
-    kind: u32,
-    curve_kind: u32,
-    number: u32,
-    f0: f64,
-    f1: f64,
-    f2: f64,
-    f3: f64,
-    t0: f64,
-    t1: f64,
-    t: f64,
-) -> Vertex
-    ensures { λ r. ⌜ r ≡ vertexOf kind «curve_kind» number f0 f1 f2 f3 t0 t1 t ⌝ }
-{
-    if kind == 0 {
-        return Vertex::Given {
-            x: f0,
-            y: f1,
-            z: f2,
-        };
-    }
-    let p = Uv { u: f0, v: f1 };
-    let q = Uv { u: f2, v: f3 };
-    let curve = curve_of(curve_kind, number, p, q, t0, t1);
-    Vertex::Pending { curve, t }
+    let p = Uv {
+        u: floats[j],
+        v: floats[j + 1],
+    };
+    let q = Uv {
+        u: floats[j + 2],
+        v: floats[j + 3],
+    };
+    curve_of(kind, number, p, q, floats[j + 4], floats[j + 5])
 }
 
 // The edge of row i.
@@ -187,19 +156,12 @@ pub fn edge_at(numbers: &[u32], floats: &[f64], i: usize) -> Edge
     ensures { λ r. ⌜ r ≡ edgeAt (now (numbers .entry)) (now (floats .entry)) i ⌝ }
 {
     let a = i * 4;
-    let b = i * 6;
-    edge_of(
-        numbers[a],
-        numbers[a + 1],
-        numbers[a + 2],
-        numbers[a + 3],
-        floats[b],
-        floats[b + 1],
-        floats[b + 2],
-        floats[b + 3],
-        floats[b + 4],
-        floats[b + 5],
-    )
+    let curve = curve_at(numbers[a + 2], numbers[a + 3], floats, i * 6);
+    Edge {
+        front: numbers[a],
+        back: numbers[a + 1],
+        curve,
+    }
 }
 
 // The front of a use.
@@ -218,16 +180,16 @@ pub fn vertex_at(numbers: &[u32], floats: &[f64], i: usize) -> Vertex
 {
     let a = i * 3;
     let b = i * 7;
-    vertex_of(
-        numbers[a],
-        numbers[a + 1],
-        numbers[a + 2],
-        floats[b],
-        floats[b + 1],
-        floats[b + 2],
-        floats[b + 3],
-        floats[b + 4],
-        floats[b + 5],
-        floats[b + 6],
-    )
+    if numbers[a] == 0 {
+        return Vertex::Given {
+            x: floats[b],
+            y: floats[b + 1],
+            z: floats[b + 2],
+        };
+    }
+    let curve = curve_at(numbers[a + 1], numbers[a + 2], floats, b);
+    Vertex::Pending {
+        curve,
+        t: floats[b + 6],
+    }
 }
