@@ -19,8 +19,9 @@ use Rattle.floats.specs.Sized.{big-held, sized-held}
 use Rattle.compress.specs.declared.Uv.{Uv}
 use Rattle.compress.specs.declared.Curve.{Curve}
 use Rattle.compress.specs.declared.Curve.the-variants.{Span, Seam}
+use Rattle.compress.specs.declared.Vertex.the-variants.{Pending}
 use Rattle.compress.specs.Records.{pick, firstOf, lastOf}
-use Rattle.compress.specs.Rows.{curveOf, edgeOf, vertexOf}
+use Rattle.compress.specs.Rows.{curveOf, curveAt, edgeOf, vertexOf}
 use Rattle.checks.specs.Causes.{when, lowerOf, lowestOf, floatCause, rangeCause, parameterCause, uvCause, pointCause, curveCause, edgeCause, vertexCause, edgeRowCause, vertexRowCause, pendingRowCause}
 use Rattle.checks.proofs.Lowest.{lower-first, lower-none}
 
@@ -164,13 +165,8 @@ curve-ends k n p q a b = by (eqb k 0)
     by false = (refl, refl)
 
 -- ---- rows
--- the curve of the cells from b on, without its number
-abbrev curveCells : ℕ → List Float → ℕ → ℕ → Curve
-curveCells k fs b n =
-    curveOf k n (record { u = getD fs b nan; v = getD fs (b + 1) nan }) (record { u = getD fs (b + 2) nan; v = getD fs (b + 3) nan }) (getD fs (b + 4) nan) (getD fs (b + 5) nan)
-
 pub edge-sound : (v : ℕ) (ns : List ℕ) (fs : List Float) (i : ℕ) → getD ns (i * 4) 0 < v → getD ns (i * 4 + 1) 0 < v
-    → (getD ns (i * 4 + 2) 0 ≤ 1) × ((n : ℕ) → curveCause (curveCells (getD ns (i * 4 + 2) 0) fs (i * 6) n) ≡ 0)
+    → (getD ns (i * 4 + 2) 0 ≤ 1) × ((n : ℕ) → curveCause (curveAt (getD ns (i * 4 + 2) 0) n fs (i * 6)) ≡ 0)
     → edgeRowCause v ns fs i ≡ 0
 unfolding edgeRowCause edgeCause edgeOf
 edge-sound v ns fs i f b c =
@@ -186,17 +182,23 @@ given-sound ns fs i k p = rw k (lower-zero 0 _ refl (lower-zero 0 _ refl p))
 pub not-pending : (ns : List ℕ) (i : ℕ) → getD ns (i * 3) 0 ≡ 0 → pendingRowCause ns i ≡ 0
 not-pending ns i k = rw k
 
+-- a pending vertex of a curve of known kind, with its floats from cell b on
+pub vertex-sound : (k n : ℕ) (fs : List Float) (b : ℕ) (t : Float) → curveCause (curveAt k n fs b) ≡ 0
+    → (rangeCause (getD fs (b + 4) nan) (getD fs (b + 5) nan) ≡ 0 → parameterCause (getD fs (b + 4) nan) (getD fs (b + 5) nan) t ≡ 0)
+    → vertexCause (Pending (curveAt k n fs b) t) ≡ 0
+unfolding vertexCause
+vertex-sound k n fs b t c p =
+    let u : Uv = record { u = getD fs b nan; v = getD fs (b + 1) nan } in
+    let v : Uv = record { u = getD fs (b + 2) nan; v = getD fs (b + 3) nan } in
+    let ends = curve-ends k n u v (getD fs (b + 4) nan) (getD fs (b + 5) nan) in
+    lower-zero _ _ c (rw (ends .0, ends .1) (p (curve-range k n u v (getD fs (b + 4) nan) (getD fs (b + 5) nan) c)))
+
 pub pending-sound : (ns : List ℕ) (fs : List Float) (i : ℕ) → getD ns (i * 3) 0 ≡ 1
-    → (getD ns (i * 3 + 1) 0 ≤ 1) × ((n : ℕ) → curveCause (curveCells (getD ns (i * 3 + 1) 0) fs (i * 7) n) ≡ 0)
-    → (rangeCause (getD fs (i * 7 + 4) nan) (getD fs (i * 7 + 5) nan) ≡ 0
-    → parameterCause (getD fs (i * 7 + 4) nan) (getD fs (i * 7 + 5) nan) (getD fs (i * 7 + 6) nan) ≡ 0)
+    → (getD ns (i * 3 + 1) 0 ≤ 1)
+    × ((n : ℕ) → vertexCause (Pending (curveAt (getD ns (i * 3 + 1) 0) n fs (i * 7)) (getD fs (i * 7 + 6) nan)) ≡ 0)
     → vertexRowCause ns fs i ≡ 0
-unfolding vertexRowCause vertexCause vertexOf
-pending-sound ns fs i k c p =
-    let ck = getD ns (i * 3 + 1) 0 in
-    let n = getD ns (i * 3 + 2) 0 in
-    let ends = curve-ends ck n (record { u = getD fs (i * 7) nan; v = getD fs (i * 7 + 1) nan }) (record { u = getD fs (i * 7 + 2) nan; v = getD fs (i * 7 + 3) nan }) (getD fs (i * 7 + 4) nan) (getD fs (i * 7 + 5) nan) in
+unfolding vertexRowCause vertexOf
+pending-sound ns fs i k c =
     rw k
     (lower-zero 0 _ refl
-    (lower-zero (when (ltb 1 ck) 1) _ (rw (le-ltb 1 ck (c .0)))
-    (lower-zero _ _ (c .1 n) (rw (ends .0, ends .1) (p (curve-range ck n _ _ _ _ (c .1 n)))))))
+    (lower-zero (when (ltb 1 (getD ns (i * 3 + 1) 0)) 1) _ (rw (le-ltb 1 (getD ns (i * 3 + 1) 0) (c .0))) (c .1 (getD ns (i * 3 + 2) 0))))

@@ -5,8 +5,9 @@ ghost use Prim.Native.Nat.{ℕ, _+_, _*_, _≤_};
 ghost use lib.Dec.{eqb};
 ghost use lib.ListN.{length, getD};
 ghost use lib.Ieee.{nan};
-ghost use Rattle.compress.specs.Rows.{curveOf};
-ghost use Rattle.checks.specs.Causes.{lowestOf, rangeCause, parameterCause, uvCause, curveCause, pointCause, curveKindCause, edgeRowCause, vertexRowCause, edgesCause, verticesCause};
+ghost use Rattle.compress.specs.Rows.{curveAt};
+ghost use Rattle.compress.specs.declared.Vertex.the-variants.{Pending};
+ghost use Rattle.checks.specs.Causes.{lowestOf, rangeCause, parameterCause, uvCause, curveCause, vertexCause, pointCause, curveKindCause, edgeRowCause, vertexRowCause, edgesCause, verticesCause};
 
 // ---- rows
 
@@ -76,7 +77,7 @@ pub fn is_point_sound(x: f64, y: f64, z: f64) -> bool
 // A curve whose six floats begin at b.
 fn is_curve_sound(kind: u32, floats: &[f64], b: usize) -> bool
     requires { ⌜ b + 6 ≤ length (now floats) ⌝ }
-    ensures { λ r. ⌜ (r ≡ true → (kind ≤ 1) × ((n : ℕ) → curveCause (curveOf kind n (record { u = getD (now (floats .entry)) b nan; v = getD (now (floats .entry)) (b + 1) nan }) (record { u = getD (now (floats .entry)) (b + 2) nan; v = getD (now (floats .entry)) (b + 3) nan }) (getD (now (floats .entry)) (b + 4) nan) (getD (now (floats .entry)) (b + 5) nan)) ≡ 0)) ⌝ }
+    ensures { λ r. ⌜ (r ≡ true → (kind ≤ 1) × ((n : ℕ) → curveCause (curveAt kind n (now (floats .entry)) b) ≡ 0)) ⌝ }
 {
     if !is_range_sound(floats[b + 4], floats[b + 5]) {
         return false;
@@ -107,22 +108,31 @@ fn is_edge_sound(bound: u32, numbers: &[u32], floats: &[f64], i: usize) -> bool
     is_curve_sound(numbers[a + 2], floats, i * 6)
 }
 
+// Whether the curve of a pending vertex, of this kind and from place b on, and the parameter behind it have no cause.
+fn is_pending_sound(kind: u32, floats: &[f64], b: usize) -> bool
+    requires { ⌜ b + 7 ≤ length (now floats) ⌝ }
+    ensures { λ r. ⌜ (r ≡ true → (kind ≤ 1) × ((n : ℕ) →
+        vertexCause (Pending (curveAt kind n (now (floats .entry)) b) (getD (now (floats .entry)) (b + 6) nan)) ≡ 0)) ⌝ }
+{
+    if !is_curve_sound(kind, floats, b) {
+        return false;
+    }
+    is_parameter_sound(floats[b + 4], floats[b + 5], floats[b + 6])
+}
+
 fn is_vertex_sound(numbers: &[u32], floats: &[f64], i: usize) -> bool
     requires { ⌜ (i * 3 + 3 ≤ length (now numbers)) × (i * 7 + 7 ≤ length (now floats)) ⌝ }
     ensures { λ r. ⌜ (r ≡ true → vertexRowCause (now (numbers .entry)) (now (floats .entry)) i ≡ 0) ⌝ }
 {
-    let a = i * 3;
     let b = i * 7;
-    if numbers[a] == 0 {
+    let kind = numbers[i * 3];
+    if kind == 0 {
         return is_point_sound(floats[b], floats[b + 1], floats[b + 2]);
     }
-    if numbers[a] != 1 {
+    if kind != 1 {
         return false;
     }
-    if !is_curve_sound(numbers[a + 1], floats, b) {
-        return false;
-    }
-    is_parameter_sound(floats[b + 4], floats[b + 5], floats[b + 6])
+    is_pending_sound(numbers[i * 3 + 1], floats, b)
 }
 
 fn are_edges_sound(vertices: usize, numbers: &[u32], floats: &[f64], count: usize) -> bool
