@@ -6,13 +6,6 @@ use libc::STDOUT_FILENO;
 use pipe_shell::Shell;
 use pipe_shell::writing;
 
-// Whether the picture is asked for.
-fn asks_picture() -> bool {
-    let mut word = [0u8; 8];
-    let n = os::arg(1, &mut word);
-    n == 3 && word[0] == 115 && word[1] == 118 && word[2] == 103
-}
-
 // The wires of the two rims with the seam between them, as one wire.
 fn joined(out: i32, cut: Shell) -> Shell {
     if !pipe_ends::sort(out, cut) {
@@ -44,7 +37,7 @@ fn divided(out: i32, joined: Shell) -> Shell {
 }
 
 fn main() {
-    let is_picture = asks_picture();
+    let is_picture = pipe_plate::asks_picture();
     if os::arg_count() > 1 && !is_picture {
         notation::text(STDERR_FILENO, b"usage: pipe [svg]\n");
         return;

@@ -14,6 +14,13 @@ const MARGIN: f64 = 60.0;
 
 const GAP: f64 = 14.0;
 
+// Whether the picture is asked for, by the word svg.
+pub fn asks_picture() -> bool {
+    let mut word = [0u8; 8];
+    let n = os::arg(1, &mut word);
+    n == 3 && word[0] == 115 && word[1] == 118 && word[2] == 103
+}
+
 // A use on the plate: its two ends.
 struct Line {
     from: Uv,
