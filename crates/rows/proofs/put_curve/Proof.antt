@@ -7,7 +7,7 @@ use Rattle.rows.proofs.put_curve.Statement.{statement}
 use Rattle.rows.proofs.put_curve.Tie as tie
 
 enum-known-c : tie.Need-enum-known-c
-enum-known-c c = search needs
+enum-known-c c = c .match .keys1
 
 add-floats : tie.Need-add-floats
 add-floats c = search needs
@@ -25,10 +25,10 @@ mul-floats-2 : tie.Need-mul-floats-2
 mul-floats-2 c = search needs
 
 slice-write-floats-2 : tie.Need-slice-write-floats-2
-slice-write-floats-2 c = simp length-set (omega arith)
+slice-write-floats-2 c = simp length-set (omega (arith, c .before .before .before .pre))
 
 enum-known-c-2 : tie.Need-enum-known-c-2
-enum-known-c-2 c = search needs
+enum-known-c-2 c = c .match .keys2
 
 mul-floats-3 : tie.Need-mul-floats-3
 mul-floats-3 c = search needs
@@ -43,7 +43,7 @@ mul-floats-4 : tie.Need-mul-floats-4
 mul-floats-4 c = search needs
 
 slice-write-floats-4 : tie.Need-slice-write-floats-4
-slice-write-floats-4 c = simp length-set (omega arith)
+slice-write-floats-4 c = simp length-set (omega (arith, c .before .before .before .pre))
 
 add-floats-4 : tie.Need-add-floats-4
 add-floats-4 c = search needs
@@ -52,7 +52,7 @@ mul-floats-5 : tie.Need-mul-floats-5
 mul-floats-5 c = search needs
 
 slice-write-floats-5 : tie.Need-slice-write-floats-5
-slice-write-floats-5 c = simp length-set (omega arith)
+slice-write-floats-5 c = simp length-set (omega (arith, c .before .before .before .pre))
 
 add-floats-5 : tie.Need-add-floats-5
 add-floats-5 c = search needs
@@ -61,7 +61,7 @@ mul-floats-6 : tie.Need-mul-floats-6
 mul-floats-6 c = search needs
 
 slice-write-floats-6 : tie.Need-slice-write-floats-6
-slice-write-floats-6 c = simp length-set (omega arith)
+slice-write-floats-6 c = simp length-set (omega (arith, c .before .before .before .pre))
 
 add-floats-6 : tie.Need-add-floats-6
 add-floats-6 c = search needs
@@ -70,7 +70,7 @@ mul-floats-7 : tie.Need-mul-floats-7
 mul-floats-7 c = search needs
 
 slice-write-floats-7 : tie.Need-slice-write-floats-7
-slice-write-floats-7 c = simp length-set (omega arith)
+slice-write-floats-7 c = simp length-set (omega (arith, c .before .before .before .pre))
 
 add-floats-7 : tie.Need-add-floats-7
 add-floats-7 c = search needs
@@ -79,16 +79,16 @@ mul-floats-8 : tie.Need-mul-floats-8
 mul-floats-8 c = search needs
 
 slice-write-floats-8 : tie.Need-slice-write-floats-8
-slice-write-floats-8 c = simp length-set (omega arith)
+slice-write-floats-8 c = simp length-set (omega (arith, c .before .before .before .pre))
 
 same-length : tie.Need-same-length
-same-length c = search needs
+same-length c = simp length-set
 
 returns : tie.Need-returns
 returns c = rw (c .before .c .given .1, run2)
 
 same-length-2 : tie.Need-same-length-2
-same-length-2 c = search needs
+same-length-2 c = simp length-set
 
 returns-2 : tie.Need-returns-2
 returns-2 c = rw (c .before .c2 .given .1, run6)
