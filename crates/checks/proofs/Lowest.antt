@@ -15,6 +15,10 @@ use Rattle.compress.proofs.Cells.{take-more}
 use Rattle.checks.specs.Causes.{lowerOf, lowestOf}
 
 -- ---- the lower of two
+-- the lower of two causes, each by another name
+pub lower-of : {a b d x y : ℕ} → a ≡ x → b ≡ y → d ≡ lowerOf a b → d ≡ lowerOf x y
+lower-of p q r = rw (r, p, q)
+
 pub lower-first : (b : ℕ) → lowerOf 0 b ≡ b
 unfolding lowerOf
 lower-first b = refl

@@ -12,8 +12,8 @@ use borrow.Author.Tests.{leb-false, ltb-false}
 use lib.Ieee.{Float, nan}
 use Rattle.compress.specs.declared.Refusal.the-variants.{NoRoom, SeveralCuts}
 use Rattle.compress.specs.Layout.{store, put, storeFrom, rows}
-use Rattle.compress.specs.Shell.{Shell, load, countsOf, verticesFit, edgesFit}
-use Rattle.checks.specs.Causes.{wiresCause, when}
+use Rattle.compress.specs.Shell.{Shell, Lent, load, countsOf, verticesFit, edgesFit}
+use Rattle.checks.specs.Causes.{wiresCause, edgeNumberCause, lowerOf, when}
 use Rattle.mending.specs.declared.Mend.{Mend}
 use Rattle.mending.specs.Steps.{InPlace}
 use Rattle.cuts.proofs.Small.{cuts-small}
@@ -34,10 +34,13 @@ use Rattle.checks.proofs.Small.{when-small, lower-small, refusal-told}
 use Rattle.cutting.specs.declared.Split.the-variants.{Done, Refused}
 use Rattle.cut_edge.specs.Cut.{halvesOf}
 use Rattle.mending.specs.Replace.{replaceWires}
-use Rattle.cutting.specs.Contract.{lentOf, leaves, inputCause}
+use Rattle.cutting.specs.Contract.{Outcome, lentOf, leaves, inputCause}
 use Rattle.cuts.specs.declared.Cut.{Cut}
 use Rattle.cuts.specs.Cuts.{cutAt, cutsCause}
 use Rattle.one_cut.specs.Cut.{addedAt, cutOnce}
+use Rattle.one_cut.specs.declared.Asked.{Asked}
+use Rattle.one_cut.specs.declared.Asked.the-variants.{Once}
+use Rattle.one_cut.specs.Steps.{asks}
 use Rattle.one_cut.specs.Contract.{oneCutCause, onceOutcome, cutBy, cutOutcome}
 
 -- ---- the range of an edge's curve, in its row
@@ -56,6 +59,24 @@ first-at en ef i = by-first (eqb (getD en (i * 4 + 2) 0) 0) _ _ refl
 pub last-at : (en : List ℕ) (ef : List Float) (i : ℕ) → lastOf (edgeAt en ef i .curve) ≡ getD ef (i * 6 + 5) nan
 unfolding edgeOf curveOf
 last-at en ef i = by-last (eqb (getD en (i * 4 + 2) 0) 0) _ _ refl
+
+-- the cause of a call, from what its steps gave: t0 and t1 bound the edge's curve
+pub cause-found : (l : Lent) (i : ℕ) (cs : List Float) (n : ℕ) {t0 t1 : Float} {s e c d r : ℕ}
+    → t0 ≡ getD (l .slices .ef) (i * 6 + 4) nan → t1 ≡ getD (l .slices .ef) (i * 6 + 5) nan
+    → s ≡ inputCause l → e ≡ edgeNumberCause (l .edges) i → c ≡ cutsCause t0 t1 cs n → d ≡ lowerOf e c → r ≡ lowerOf s d
+    → r ≡ oneCutCause l i cs n
+unfolding oneCutCause
+cause-found l i cs n p q hs he hc hd hr =
+    rw (first-at (l .slices .en) (l .slices .ef) i, last-at (l .slices .en) (l .slices .ef) i) (rw (hr, hd, hc, he, hs, p, q))
+
+-- what is asked for holds of the answer as it is known to be
+pub asked-is : (l : Lent) (i : ℕ) (cs : List Float) (n : ℕ) {a b : Asked} → a ≡ b → asks l i cs n a → asks l i cs n b
+asked-is l i cs n p h = rw p at h
+
+-- one cut is asked for, and o is its outcome: o is the call's
+pub asked-once : (l : Lent) (i : ℕ) (cs : List Float) (n : ℕ) {a : Asked} {c : Cut} {o : Outcome}
+    → a ≡ Once c → asks l i cs n a → o ≡ onceOutcome l i c → o ≡ cutOutcome l i cs n
+asked-once l i cs n {c = c} p h q = q ∙ asked-is l i cs n {b = Once c} p h .2
 
 -- ---- the map
 take-replicate : {A : Type 0} (a : A) (n k : ℕ) → n ≤ k → take n (replicate k a) ≡ replicate n a

@@ -2,6 +2,7 @@
 use borrow.Author.Needs.{needs}
 use Rattle.floats.specs.Sized.{zero-bits}
 use Rattle.checks.specs.Causes.{periodCause}
+use Rattle.checks.proofs.Lowest.{lower-of}
 use Rattle.checks.proofs.period.Statement.{statement}
 use Rattle.checks.proofs.period.Tie as tie
 
@@ -16,7 +17,7 @@ lower-requires c κs = search needs
 
 returns : tie.Need-returns
 unfolding periodCause
-returns c = rw (← zero-bits) (cc)
+returns c = lower-of (c .before .before .float .ensures) (rw (← zero-bits) (c .before .cause-when .ensures)) (c .lower .ensures)
 
 pub period-spec : {M : Type 1} → statement M
 period-spec = tie.close (tie.spec float-requires cause-when-requires lower-requires returns)

@@ -1,17 +1,18 @@
 -- `checks::vertex` meets its contract. Assumes nothing.
 use borrow.Author.Needs.{needs}
 use Rattle.checks.specs.Causes.{vertexCause}
+use Rattle.checks.proofs.Lowest.{lower-of}
 use Rattle.checks.proofs.vertex.Statement.{statement}
 use Rattle.checks.proofs.vertex.Tie as tie
 
 enum-known-v : tie.Need-enum-known-v
-enum-known-v c = search needs
+enum-known-v c = c .match .keys1
 
 point-requires : tie.Need-point-requires
 point-requires c κs = search needs
 
 enum-known-v-2 : tie.Need-enum-known-v-2
-enum-known-v-2 c = search needs
+enum-known-v-2 c = c .match .keys2
 
 curve-requires : tie.Need-curve-requires
 curve-requires c κs = search needs
@@ -28,7 +29,9 @@ returns c = rw (c .before .before .v .given .1) (c .point .ensures)
 
 returns-2 : tie.Need-returns-2
 unfolding vertexCause
-returns-2 c = rw (c .before .before .before .before .v2 .given .1) (cc)
+returns-2 c =
+    rw (c .before .before .before .before .v2 .given .1) (lower-of (c .before .before .curve .ensures) (c .before .curve-parameter
+    .ensures) (c .lower .ensures))
 
 pub vertex-spec : {M : Type 1} → statement M
 vertex-spec =

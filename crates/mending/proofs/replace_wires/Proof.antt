@@ -40,7 +40,14 @@ part-replace-edges-end : tie.Need-part-replace-edges-end Inv-loop μ-loop
 part-replace-edges-end c = omega (arith, wire-lies _ _ _ _ _ _ (c .before .before .before .before .before .before .before .before .pre) _ _ _ _ _ (c .before .before .loop .inv) (c .before .loop-test .taken), c .before .before .before .before .before .before .before .before .pre .lent)
 
 mul-replace-edges-2 : tie.Need-mul-replace-edges-2 Inv-loop μ-loop
-mul-replace-edges-2 c = omega arith
+mul-replace-edges-2 c =
+    omega (
+      arith,
+      c .before .before .before .loop .inv .at-le,
+      c .before .before .before .loop .inv .from-is,
+      c .before .before .before
+          .before .before .before .before .before .before .pre .few,
+    )
 
 sub-replace-edges-2 : tie.Need-sub-replace-edges-2 Inv-loop μ-loop
 sub-replace-edges-2 c = omega (arith, wire-lies _ _ _ _ _ _ (c .before .before .before .before .before .before .before .before .before .pre) _ _ _ _ _ (c .before .before .before .loop .inv) (c .before .before .loop-test .taken), c .before .before .before .before .before .before .before .before .before .pre .room, c .before .before .before .loop .inv .at-le, c .before .before .before .loop .inv .same-out)
@@ -58,19 +65,41 @@ cast-out-lengths : tie.Need-cast-out-lengths Inv-loop μ-loop
 cast-out-lengths c = omega (arith, wire-small _ _ _ _ _ _ (c .before .before .before .before .before .before .before .before .before .before .before .before .before .pre) _ _ _ _ _ (c .before .before .before .before .before .before .before .loop .inv) (c .before .before .before .before .before .before .loop-test .taken) _ (c .before .before .replace-edges .ensures .0), wire-lies _ _ _ _ _ _ (c .before .before .before .before .before .before .before .before .before .before .before .before .before .pre) _ _ _ _ _ (c .before .before .before .before .before .before .before .loop .inv) (c .before .before .before .before .before .before .loop-test .taken), c .before .before .before .before .before .before .before .before .before .before .before .before .before .pre .few)
 
 mul-out-lengths : tie.Need-mul-out-lengths Inv-loop μ-loop
-mul-out-lengths c = omega arith
+mul-out-lengths c =
+    omega (
+      arith,
+      c .before .before .before .before .before .before .loop-test .taken,
+      c .before .before .before .before .before .before
+          .before .before .before .before .before .before .before .pre .wires-le,
+      c .before .before .before .before .before .before .before
+          .before .before .before .before .before .before .good,
+    )
 
 slice-write-out-lengths : tie.Need-slice-write-out-lengths Inv-loop μ-loop
-slice-write-out-lengths c = omega (arith, c .before .before .before .before .before .before .before .before .before .before .before .before .before .pre .places, c .before .before .before .before .before .before .before .loop .inv .same-ol)
+slice-write-out-lengths c =
+    omega (
+      arith,
+      c .before .before .before .before .before .before .loop-test .taken,
+      c .before .before .before .before .before .before
+          .before .before .before .before .before .before .before .pre .places,
+      c .before .before .before .before .before .before .before .loop
+          .inv .same-ol,
+    )
 
 add-at : tie.Need-add-at Inv-loop μ-loop
 add-at c = omega (arith, wire-small _ _ _ _ _ _ (c .before .before .before .before .before .before .before .before .before .before .before .before .before .pre) _ _ _ _ _ (c .before .before .before .before .before .before .before .loop .inv) (c .before .before .before .before .before .before .loop-test .taken) _ (c .before .before .replace-edges .ensures .0), wire-lies _ _ _ _ _ _ (c .before .before .before .before .before .before .before .before .before .before .before .before .before .pre) _ _ _ _ _ (c .before .before .before .before .before .before .before .loop .inv) (c .before .before .before .before .before .before .loop-test .taken), c .before .before .before .before .before .before .before .before .before .before .before .before .before .pre .few, c .before .before .before .before .before .before .before .loop .inv .at-le)
 
 add-w : tie.Need-add-w Inv-loop μ-loop
-add-w c = omega arith
+add-w c =
+    omega (
+      arith,
+      c .before .before .before .before .before .before .loop-test .taken,
+      c .before .before .before .before .before .before
+          .before .before .before .before .before .before .before .fits .wires,
+    )
 
 loop-less : tie.Need-loop-less Inv-loop μ-loop
-loop-less c = omega arith
+loop-less c = omega (arith, c .before .before .before .before .before .before .loop-test .taken)
 
 loop-again : tie.Need-loop-again Inv-loop μ-loop
 loop-again c =

@@ -20,13 +20,13 @@ mend-wires-requires : tie.Need-mend-wires-requires
 mend-wires-requires c κs = map-mends _ (c .before .before .before .before .before .before .before .before .before .before .args .edges) (c .before .before .before .before .before .before .before .before .before .before .args .i) _ _ _ (marked _ _ _ _ _ (c .before .before .before .before .before .mark-cut .ensures) (c .before .before .before .before .before .before .before .before .before .before .pre .1 .0) (c .before .before .before .before .before .before .before .before .before .before .pre .0 .0) (c .before .before .before .before .before .before .before .before .before .before .pre .1 .1)) (c .before .before .before .before .before .before .before .before .before .before .pre .0 .1) (c .before .before .before .before .before .before .before .before .before .before .pre .0 .2)
 
 same-length : tie.Need-same-length
-same-length c = search needs
+same-length c = c .before .before .before .before .mend-wires .kept .0
 
 same-length-2 : tie.Need-same-length-2
-same-length-2 c = search needs
+same-length-2 c = c .before .before .before .before .mend-wires .kept .1 .0
 
 same-length-3 : tie.Need-same-length-3
-same-length-3 c = search needs
+same-length-3 c = c .before .before .before .before .before .before .before .before .before .before .mark-cut .kept .0
 
 returns : tie.Need-returns
 returns c = rw (marked _ _ _ _ _ (c .before .before .before .before .before .before .before .before .before .before .mark-cut .ensures) (c .before .before .before .before .before .before .before .before .before .before .before .before .before .before .before .pre .1 .0) (c .before .before .before .before .before .before .before .before .before .before .before .before .before .before .before .pre .0 .0) (c .before .before .before .before .before .before .before .before .before .before .before .before .before .before .before .pre .1 .1)) at (c .before .before .before .before .mend-wires .ensures)

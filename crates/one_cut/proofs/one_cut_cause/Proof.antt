@@ -1,6 +1,6 @@
 -- `one_cut::one_cut_cause` meets its contract. Assumes nothing.
-use Rattle.one_cut.specs.Contract.{oneCutCause}
-use Rattle.one_cut.proofs.Outcome.{first-at, last-at}
+use Rattle.cutting.specs.Contract.{lentOf}
+use Rattle.one_cut.proofs.Outcome.{cause-found}
 use borrow.Author.Needs.{needs}
 use Rattle.one_cut.proofs.one_cut_cause.Statement.{statement}
 use Rattle.one_cut.proofs.one_cut_cause.Tie as tie
@@ -36,11 +36,15 @@ lower-requires-2 : tie.Need-lower-requires-2
 lower-requires-2 c κs = search needs
 
 returns : tie.Need-returns
-unfolding oneCutCause
 returns c =
     let a = c .before .before .before .before .before .before .before .before .before .before .before .before .before .before .args in
-    rw (first-at (a .edge-numbers .now) (a .edge-floats .now) (a .edge), last-at (a .edge-numbers .now) (a .edge-floats .now) (a .edge))
-    (rw (c .lower2 .ensures, c .before .lower .ensures, c .before .before .cuts-cause .ensures, c .before .before .before .edge-number .ensures, c .before .before .before .before .input-cause .ensures, c .before .before .before .before .before .float-at2 .ensures, c .before .before .before .before .before .before .float-at .ensures))
+    cause-found (lentOf (a .vertex-numbers .now) (a .vertex-floats .now) (a .edge-numbers .now) (a .edge-floats .now) (a .uses .now) (a
+    .lengths .now)
+    (a .vertices) (a .edges) (a .wires)) (a .edge) (a .cuts .now) (a .count)
+    (c .before .before .before .before .before .before .float-at .ensures) (c .before .before .before .before .before .float-at2 .ensures)
+    (c .before .before .before .before .input-cause .ensures) (c .before .before .before .edge-number .ensures) (c .before .before
+    .cuts-cause .ensures)
+    (c .before .lower .ensures) (c .lower2 .ensures)
 
 pub one-cut-cause-spec : {M : Type 1} → statement M
 one-cut-cause-spec =

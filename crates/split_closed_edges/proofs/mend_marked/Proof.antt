@@ -22,13 +22,13 @@ mend-wires-requires : tie.Need-mend-wires-requires
 mend-wires-requires c κs = map-mends (c .before .before .before .before .before .before .before .before .before .before .before .args .edge-numbers .now) (c .before .before .before .before .before .before .before .before .before .before .before .args .edges) (c .before .before .before .before .before .before .before .before .before .before .before .args .added .now) _ _ (c .before .before .before .before .before .mark-closed .ensures) [] _ _ _ (c .before .before .before .before .before .before .before .before .before .before .before .pre .0) (c .before .before .before .before .before .before .before .before .before .before .before .pre .2)
 
 same-length : tie.Need-same-length
-same-length c = search needs
+same-length c = c .before .before .before .before .mend-wires .kept .0
 
 same-length-2 : tie.Need-same-length-2
-same-length-2 c = search needs
+same-length-2 c = c .before .before .before .before .mend-wires .kept .1 .0
 
 same-length-3 : tie.Need-same-length-3
-same-length-3 c = search needs
+same-length-3 c = c .before .before .before .before .before .before .before .before .before .before .mark-closed .kept .1 .1 .0
 
 returns : tie.Need-returns
 returns c = closed-mended (c .before .before .before .before .before .before .before .before .before .before .before .before .before .before .before .before .args .edge-numbers .now) (c .before .before .before .before .before .before .before .before .before .before .before .before .before .before .before .before .args .edges) _ _ _ (c .before .before .before .before .before .before .before .before .before .before .before .before .before .before .before .before .args .room) (c .before .before .before .before .before .before .before .before .before .before .before .before .before .before .before .before .args .added .now) _ _ (c .before .before .before .before .before .before .before .before .before .before .mark-closed .ensures) _ _ _ _ refl (c .before .before .before .before .mend-wires .ensures)

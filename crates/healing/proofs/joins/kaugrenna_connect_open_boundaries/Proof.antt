@@ -2,50 +2,49 @@
 use mathlib.Core.Path.{refl}
 use Rattle.joined.specs.Outcome.{saidJoin}
 use Rattle.healing.proofs.Told.{told-result, told-none, told-refused, join-told}
-use borrow.Author.Needs.{needs}
 use Rattle.healing.proofs.joins.kaugrenna_connect_open_boundaries.Statement.{statement}
 use Rattle.healing.proofs.joins.kaugrenna_connect_open_boundaries.Tie as tie
 
 connect-open-boundaries-requires : tie.Need-connect-open-boundaries-requires
-connect-open-boundaries-requires c κs = search needs
+connect-open-boundaries-requires c κs = tt
 
 enum-known-answer : tie.Need-enum-known-answer
-enum-known-answer c = search needs
+enum-known-answer c = c .match .keys1
 
 enum-told : tie.Need-enum-told
-enum-told c = search needs
+enum-told c = c .match .keys2
 
 enum-known-answer-2 : tie.Need-enum-known-answer-2
-enum-known-answer-2 c = search needs
+enum-known-answer-2 c = c .match .keys3
 
 refusal-code-requires : tie.Need-refusal-code-requires
-refusal-code-requires c κs = search needs
+refusal-code-requires c κs = tt
 
 same-length : tie.Need-same-length
-same-length c = search needs
+same-length c = c .before .before .before .before .before .before .before .connect-open-boundaries .kept .1 .1 .1 .1 .0
 
 same-length-2 : tie.Need-same-length-2
-same-length-2 c = search needs
+same-length-2 c = c .before .before .before .before .before .before .before .connect-open-boundaries .kept .1 .1 .1 .1 .1 .0
 
 returns : tie.Need-returns
 returns c =
     join-told (c .before .before .before .before .before .before .before .connect-open-boundaries .ensures) (told-result saidJoin refl (c .before .answer .given .1) refl)
 
 same-length-3 : tie.Need-same-length-3
-same-length-3 c = search needs
+same-length-3 c = c .before .before .before .before .before .before .connect-open-boundaries .kept .1 .1 .1 .1 .0
 
 same-length-4 : tie.Need-same-length-4
-same-length-4 c = search needs
+same-length-4 c = c .before .before .before .before .before .before .connect-open-boundaries .kept .1 .1 .1 .1 .1 .0
 
 returns-2 : tie.Need-returns-2
 returns-2 c =
     join-told (c .before .before .before .before .before .before .connect-open-boundaries .ensures) (told-none saidJoin refl (c .enum-told .given .1) refl)
 
 same-length-5 : tie.Need-same-length-5
-same-length-5 c = search needs
+same-length-5 c = c .before .before .before .before .before .before .before .before .connect-open-boundaries .kept .1 .1 .1 .1 .0
 
 same-length-6 : tie.Need-same-length-6
-same-length-6 c = search needs
+same-length-6 c = c .before .before .before .before .before .before .before .before .connect-open-boundaries .kept .1 .1 .1 .1 .1 .0
 
 returns-3 : tie.Need-returns-3
 returns-3 c =
