@@ -34,10 +34,10 @@ copy-requires c κs =
     (c .before .before .before .before .before .before .before .before .made-by .ensures) _ (w .ensures .1 .1) (p .1 .1)
 
 same-length : tie.Need-same-length
-same-length c = search needs
+same-length c = c .before .before .before .before .before .before .before .copy-wires .kept .1 .1 .1 .0
 
 same-length-2 : tie.Need-same-length-2
-same-length-2 c = search needs
+same-length-2 c = c .before .before .copy .kept .1 .1 .0
 
 returns : tie.Need-returns
 returns c =
