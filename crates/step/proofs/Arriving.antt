@@ -9,7 +9,6 @@ use mir.Syntax.{w16, w64}
 use mir.Val.{Fits}
 use lib.ListN.{getD, set}
 use native.Mathlib.Omega.{arith}
-use Rattle.step.specs.declared.Step.{Step}
 use Rattle.step.specs.declared.Step.the-variants.{Use, TooManyUses}
 use Rattle.step.specs.Arrival.{exactlyOne, Went, many, one, second, first}
 

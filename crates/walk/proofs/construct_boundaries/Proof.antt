@@ -7,8 +7,7 @@ use lib.ListN.{length, set}
 use native.Mathlib.Omega.{arith}
 use borrow.Author.Needs.{needs}
 use Rattle.lists.specs.Ends.{frontOf, backOf, markedOf}
-use Rattle.lists.proofs.Chains.{lists-all}
-use Rattle.walk.proofs.Small.{zeros, front-small, back-small, edge-there, mark-there}
+use Rattle.walk.proofs.Small.{front-small, back-small, edge-there, mark-there}
 use Rattle.walk.proofs.Walks.{Between, Along, between-some, walk-begins, wire-begins, wire-goes, wire-closes, walk-stops, walk-ends}
 use Rattle.walk.proofs.construct_boundaries.Statement.{statement}
 use Rattle.walk.proofs.construct_boundaries.Tie as tie
