@@ -1,5 +1,5 @@
 -- `join::connect_open_boundaries` meets its contract. Assumes nothing.
-use mathlib.Core.Path.{ap, sym, _∙_}
+use mathlib.Core.Path.{ap, sym, _∙_, refl}
 use borrow.Author.Needs.{needs}
 use Rattle.checks.proofs.Small.{refuses, answers}
 use Rattle.joined.specs.Outcome.{joinLeaves}
@@ -15,10 +15,10 @@ refusal-of-requires : tie.Need-refusal-of-requires
 refusal-of-requires c κs = search needs
 
 same-length : tie.Need-same-length
-same-length c = search needs
+same-length c = refl
 
 same-length-2 : tie.Need-same-length-2
-same-length-2 c = search needs
+same-length-2 c = refl
 
 returns : tie.Need-returns
 unfolding joinOutcome
@@ -43,10 +43,10 @@ connect-checked-requires c κs =
     (a .joinable, a .first-some, a .second-some)
 
 same-length-3 : tie.Need-same-length-3
-same-length-3 c = search needs
+same-length-3 c = c .before .before .before .before .connect-checked .kept .1 .1 .1 .1 .0
 
 same-length-4 : tie.Need-same-length-4
-same-length-4 c = search needs
+same-length-4 c = c .before .before .before .before .connect-checked .kept .1 .1 .1 .1 .1 .0
 
 returns-2 : tie.Need-returns-2
 unfolding joinOutcome
