@@ -2,8 +2,10 @@
 -- Assumes nothing.
 use mathlib.Core.Path.{_≡_, sym}
 use mathlib.Core.List.{List}
-use Prim.Native.Nat.{ℕ, _+_, _-_, _/_, _≤_, _<_}
+use Prim.Native.Nat.{ℕ, _+_, _-_, _/_, _≤_, _<_, _*_}
 use native.Mathlib.Omega.{arith}
+use mir.Syntax.{w64}
+use mir.Val.{Fits}
 use borrow.Author.Tests.{lt-ltb, le-ltb}
 use lib.ListN.{length, getD}
 use Rattle.compress.specs.declared.Edge.{Edge}
@@ -53,3 +55,22 @@ module _ (es : ℕ → Edge) (vs : ℕ → Vertex) (w : List ℕ) (j0 : ℕ) (s 
       → r ≡ nearestEnds es vs (frontAt es (getD w (halfUp j0) 0)) (stretch w 1 j0) (stretch w (s .i + 1) (s .j)) → r ≡ turnedDivisor es vs w j0
   unfolding turnedDivisor dividedBy
   divided r h q = rw (← S .is, lt-ltb _ _ h) q
+
+-- the place halfway to j, in a list that j is a place of
+module _ {j l : ℕ} (some : 0 < j) (lt : j < l) where
+  pub half-in : (j + 1) / 2 < l
+  half-in = omega arith
+
+  pub half-fits : l ≤ 1024 → Fits w64 ((j + 1) / 2 * 4)
+  half-fits few = omega (arith, half-in)
+
+  pub stretch-end : j ≤ l
+  stretch-end = omega arith
+
+-- a place before another of a list
+module _ {x y l : ℕ} (le : x ≤ y) (inside : y ≤ l) (few : l ≤ 1024) where
+  pub place-fits : Fits w64 x
+  place-fits = omega arith
+
+  pub words-fit : Fits w64 (x * 4)
+  words-fit = omega arith

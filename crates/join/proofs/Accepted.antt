@@ -1,6 +1,6 @@
 -- What an input of a join without a cause is, and that its cause is a number of the table.
 -- Assumes nothing.
-use mathlib.Core.Path.{_≡_}
+use mathlib.Core.Path.{_≡_, ap, _∙_}
 use mathlib.Core.List.{List}
 use Prim.Native.Nat.{ℕ, _+_, _≤_, _<_}
 use native.Mathlib.Omega.{arith}
@@ -9,12 +9,15 @@ use lib.Dec.{eqb, ltb}
 use lib.ListN.{length, take}
 use lib.Seq.{getD-take, length-take-le}
 use lib.Ieee.{Float}
-use Rattle.compress.specs.Wires.{total}
+use Rattle.compress.specs.Rows.{edgeAt}
+use Rattle.compress.specs.Wires.{total, wiresOf}
 use Rattle.checks.specs.Causes.{when, countCause, vertexNumberCause, edgesCause, usesCause}
 use Rattle.checks.proofs.Accepted.{EdgesAccepted, passed, not-when, edges-accepted, uses-in}
 use Rattle.checks.proofs.Lowest.{lower-none}
-use Rattle.checks.proofs.Small.{when-small, pick-small, lower-small, count-small, vertex-number-small, edges-small, uses-small}
-use Rattle.join.specs.Contract.{joinWiresCause, emptyCause, joinCause}
+use Rattle.checks.proofs.Small.{when-small, pick-small, lower-small, count-small, vertex-number-small, edges-small, uses-small, answers}
+use Rattle.join.specs.Contract.{joinWiresCause, emptyCause, joinCause, joinOutcome}
+use Rattle.join.specs.Join.{connected}
+use Rattle.joined.specs.Outcome.{JoinOutcome, joinLeaves}
 use Rattle.laying.specs.Steps.{Readable}
 use Rattle.joined.specs.Steps.{Joinable}
 
@@ -99,3 +102,11 @@ module _ (en : List ℕ) (ef : List Float) (a b us ls : List ℕ) (v e n m k v0 
       (lower-small (vertexNumberCause v v0) _ (vertex-number-small v v0)
       (lower-small (vertexNumberCause v v1) _ (vertex-number-small v v1)
       (lower-small (joinWiresCause e a n b m us ls k) (emptyCause n m) wires-small empty-small))))
+
+-- the call: without a cause it leaves what the join of the open wires leaves
+pub join-told : (en : List ℕ) (ef : List Float) (a b us ls : List ℕ) (v e n m k v0 v1 c : ℕ) {o : JoinOutcome}
+    → c ≡ joinCause en ef a b us ls v e n m k v0 v1 → c ≡ 0
+    → o ≡ joinLeaves us ls (connected (edgeAt en ef) v0 v1 (take n a) (take m b) (wiresOf us (take k ls)))
+    → o ≡ joinOutcome en ef a b us ls v e n m k v0 v1
+unfolding joinOutcome
+join-told en ef a b us ls v e n m k v0 v1 c q z t = t ∙ ap (joinLeaves us ls) (answers _ _ _ q z)

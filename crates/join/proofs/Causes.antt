@@ -62,11 +62,24 @@ module _ (e : ℕ) (a : List ℕ) (n : ℕ) (b : List ℕ) (m : ℕ) (us ls : Li
                 let u : length us < total (take k ls) = omega arith in
                 rw (few, le-ltb (length ls) k l, le-ltb (length a) n f, le-ltb (length b) m s, fit, lt-ltb (length us) (total (take k ls)) u)
 
-            pub uses-told : t ≤ length us → (r : ℕ) → r ≡ lowerOf (usesCause e a n) (lowerOf (usesCause e b m) (usesCause e us t))
+            pub uses-told : t ≤ length us → {x y z w r : ℕ} → x ≡ usesCause e a n → y ≡ usesCause e b m → z ≡ usesCause e us t
+                → w ≡ lowerOf y z → r ≡ lowerOf x w
                 → r ≡ joinWiresCause e a n b m us ls k
             unfolding joinWiresCause
-            uses-told j r p =
+            uses-told j ex ey ez ew er =
                 let u : total (take k ls) ≤ length us = omega arith in
-                rw
-                (few, le-ltb (length ls) k l, le-ltb (length a) n f, le-ltb (length b) m s, fit, le-ltb (length us) (total (take k ls)) u, ← q)
-                p
+                rw (
+                  few,
+                  le-ltb (length ls) k l,
+                  le-ltb (length a) n f,
+                  le-ltb (length b) m s,
+                  fit,
+                  le-ltb (length us)
+                      (total (take k ls)) u,
+                  ← q,
+                  er,
+                  ew,
+                  ex,
+                  ey,
+                  ez,
+                )

@@ -11,11 +11,13 @@ use lib.ListN.{length, getD, take, drop, length-append, length-drop, drop-of-len
 use lib.Seq.{take-all, drop-drop, take-at, drop-at, drop-append-add, getD-append-add, length-take-le}
 use lib.Ieee.{Float}
 use Rattle.compress.specs.declared.Edge.{Edge}
+use Rattle.compress.specs.Rows.{edgeAt}
 use Rattle.compress.specs.Said.{none}
 use Rattle.wires.specs.Turn.{turned}
 use Rattle.wires.proofs.Turns.{length-turned, getD-turned}
 use Rattle.laying.specs.Places.{indexOf, closedBy}
 use Rattle.laying.specs.Steps.{Readable, laid}
+use Rattle.laying.proofs.Places.{index-le}
 
 -- a part from `at` on was lent, and came back with p written over its front
 pub laid-at : (out ys p : List ℕ) (at : ℕ) → at + length p ≤ length out → ys ≡ p ++ drop (length p) (take (length out - at) (drop at out))
@@ -91,3 +93,36 @@ module _ (es : ℕ → Edge) (v : ℕ) (wire second : List ℕ) (l : ℕ) (q : l
       let g : indexOf es v wire < length wire = omega arith in
       let n : r ≡ 0 → ⊥ = λ z. omega arith in
       rw (lt-ltb (indexOf es v wire) (length wire) g, ← q, ← e, ne-eqb r 0 n)
+
+-- the first n of a list that has as many as m are n
+pub front-count : {n m : ℕ} (l : List ℕ) → n ≤ m → length l ≡ m → n ≡ length (take n l)
+front-count {n} l h e = sym (length-take-le n l (omega arith))
+
+-- ---- both halves: the first, with the wire behind it, is laid into the front of `opened`; the second is laid behind what is read there
+module _ (en : List ℕ) (ef : List Float) (first wire second opened : List ℕ) (turn v : ℕ) (h : turn ≤ length first)
+    (e : take (length first + length wire) opened ≡ turned turn first ++ turned (indexOf (edgeAt en ef) v wire) wire) where
+  front-length : length (take (length first + length wire) opened) ≡ length first + length wire
+  front-length =
+      rw (e, length-append)
+      (omega (arith, length-turned turn first h, length-turned (indexOf (edgeAt en ef) v wire) wire (index-le (edgeAt en ef) v wire)))
+
+  -- what the second half asks
+  pub second-asks : (j o : ℕ) → (j ≤ length second) × (length first + length wire + length second ≤ 1024) × (o ≡ 1024)
+      → (Readable en ef first) × (Readable en ef wire)
+      → (j ≤ length second) × (length (take (length first + length wire) opened) + length second ≤ o) × (o ≤ 1024)
+      × Readable en ef (take (length first + length wire) opened)
+  second-asks j o p r =
+      let k = index-le (edgeAt en ef) v wire in (
+        p .0,
+        omega (arith, p .1, p .2, front-length),
+        omega (arith, p .2),
+        rw e (append-rows en ef (turned turn first) (turned (indexOf (edgeAt en ef) v wire) wire) (turned-rows en ef turn first h (r .0))
+            (turned-rows en ef (indexOf (edgeAt en ef) v wire) wire k (r .1))),
+      )
+
+  -- what it leaves
+  pub second-leaves : (j v1 r : ℕ) (out : List ℕ) → length first + length wire + length second ≤ 1024
+      → (laid r out ≡ closedBy (edgeAt en ef) v1 (take (length first + length wire) opened) (turned j second))
+      × (r ≤ length (take (length first + length wire) opened) + length second)
+      → (laid r out ≡ closedBy (edgeAt en ef) v1 (turned turn first ++ turned (indexOf (edgeAt en ef) v wire) wire) (turned j second)) × (r ≤ 1024)
+  second-leaves j v1 r out few l = (rw e at (l .0), omega (arith, l .1, front-length))

@@ -8,8 +8,8 @@ use native.Mathlib.Omega.{arith}
 use native.Mathlib.Decide.{decLt}
 use borrow.Author.Tests.{ltb-true, ltb-false, leb-true, leb-false, ne-eqb, lt-ltb, le-ltb}
 use lib.Dec.{eqb, leb, ltb}
-use lib.ListN.{length, getD, take, drop, length-append, length-drop, List·getD-append, List·getD-eq-default}
-use lib.Seq.{sets, take-all, take-at, getD-append-add}
+use lib.ListN.{length, getD, take, drop, replicate, length-append, length-drop, length-replicate, List·getD-append, List·getD-eq-default}
+use lib.Seq.{sets, length-take-le, take-all, take-at, getD-append-add}
 use Rattle.compress.specs.Records.{pick}
 use Rattle.compress.proofs.Cells.{take-sets}
 use Rattle.lists.specs.Ends.{endIn, endOf, frontOf, backOf, markedOf, Sound}
@@ -113,3 +113,35 @@ module _ (en : List ℕ) (edges : ℕ) (face rebuilt ds : List ℕ) (pairs : ℕ
       → o ≡ walkOutcome (walk (frontOf en ds edges) (backOf en ds edges) (markedOf ms) us) os ls → o ≡ walkOutcome (lentWalk en edges face rebuilt ds pairs) os ls
   unfolding lentWalk
   walked ms us os ls o q m T = rw (q, m) at T
+
+-- a first part of a table of 1024 is as long as asked
+pub prefix-length : {m : ℕ} (l : List ℕ) → m ≤ 1024 → length l ≡ 1024 → m ≡ length (take m l)
+prefix-length {m} l le e = sym (length-take-le m l (omega arith))
+
+-- The same as the code has it: the uses are laid in a table of 1024 zeros.
+module _ {en face rebuilt ds : List ℕ} {edges pairs : ℕ} (W : Walkable en edges face rebuilt ds pairs) {us₁ us₂ : List ℕ}
+    (e₁ : us₁ ≡ take (length rebuilt) rebuilt ++ drop (length rebuilt) (replicate {A = ℕ} 1024 0))
+    (e₂ : us₂ ≡ sets us₁ (length rebuilt) (newUses edges pairs)) where
+  laid : take (length rebuilt + pairs * 2) us₂ ≡ toWalk en edges face rebuilt ds pairs W
+  laid = uses-laid en edges face rebuilt ds pairs W (replicate {A = ℕ} 1024 0) us₁ us₂ _ (length-replicate {A = ℕ} 1024 0) e₁ e₂ refl
+
+  -- what the walk asks of its caller
+  pub walk-asks : (ms : List ℕ) (n o l : ℕ) → edges + pairs ≤ n → length ms ≡ n
+      → (length rebuilt + pairs * 2 ≤ o) × (length rebuilt + pairs * 2 ≤ l)
+      → Sound en ds edges ms (take (length rebuilt + pairs * 2) us₂)
+      × ((length (take (length rebuilt + pairs * 2) us₂) ≤ o) × (length (take (length rebuilt + pairs * 2) us₂) ≤ l))
+  walk-asks ms n o l lm em fits =
+      let lw = length-walk en edges face rebuilt ds pairs W in (
+        sound en edges face rebuilt ds pairs W ms _ (omega (arith, lm, em)) laid,
+        (omega (arith, ap length laid, lw, fits), omega (arith, ap length laid, lw, fits)),
+      )
+
+  -- what it leaves
+  pub walk-leaves : (n : ℕ) (ms₁ ms₂ os ls : List ℕ) {o : WalkOutcome} → edges + pairs ≤ n
+      → ((k : ℕ) → getD ms₂ k 0 ≡ pick (isNewEdge edges pairs k) 2 (getD ms₁ k 0))
+      → length ms₁ ≡ n → ((k : ℕ) → k < n → getD ms₁ k 0 ≡ occurs k face)
+      → o ≡ walkOutcome (walk (frontOf en ds edges) (backOf en ds edges) (markedOf ms₂) (take (length rebuilt + pairs * 2) us₂)) os ls
+      → o ≡ walkOutcome (lentWalk en edges face rebuilt ds pairs) os ls
+  walk-leaves n ms₁ ms₂ os ls {o} room news long counts T =
+      walked en edges face rebuilt ds pairs W ms₂ _ os ls o laid
+      (marked-same en edges face rebuilt ds pairs W n room ms₁ ms₂ news long counts) T

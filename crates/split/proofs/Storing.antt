@@ -4,6 +4,8 @@ use mathlib.Core.Path.{_≡_, ap, _∙_}
 use mathlib.Core.List.{List, []}
 use Prim.Native.Nat.{ℕ, _+_, _*_, _≤_}
 use native.Mathlib.Omega.{arith}
+use mir.Syntax.{w64}
+use mir.Val.{Fits}
 use lib.Ieee.{Float}
 use lib.ListN.{length}
 use Rattle.compress.specs.declared.Edge.{Edge}
@@ -29,11 +31,23 @@ seams-pairs surface pairs ds fs =
     length-seamsOf surface (rows (stopAt ds fs) 0 (pairs * 2)) ∙ rw l (omega arith)
 
 -- no more seams than pairs
-pub seams-le : (r : Walked) (pairs : ℕ) → seamsAfter r pairs ≤ pairs
+seams-le : (r : Walked) (pairs : ℕ) → seamsAfter r pairs ≤ pairs
 seams-le (Done n t) pairs = omega arith
 seams-le DeadEnd pairs = omega arith
 seams-le TooManyUses pairs = omega arith
 seams-le EmptyList pairs = omega arith
+
+-- so they fit where the pairs do
+module _ (r : Walked) (edges pairs : ℕ) {n : ℕ} (e : n ≡ seamsAfter r pairs) where
+  seams-few : n ≤ pairs
+  seams-few = rw e (seams-le r pairs)
+
+  pub seams-fit : {a b d p : ℕ} → (edges + pairs) * 4 ≤ a → (edges + pairs) * 6 ≤ b → d ≡ pairs * 2 → pairs * 4 ≤ p
+      → (((edges + n) * 4 ≤ a) × ((edges + n) * 6 ≤ b)) × ((n * 2 ≤ d) × (n * 4 ≤ p))
+  seams-fit ha hb hd hp = ((omega (arith, seams-few), omega (arith, seams-few)), (omega (arith, seams-few), omega (arith, seams-few)))
+
+  pub edges-fit : edges + pairs ≤ 4096 → Fits w64 (edges + n)
+  edges-fit h = omega (arith, seams-few)
 
 -- no seam stored
 no-seams : {A : Type 0} (l : Layout A Edge) (s : List A) (surface edges : ℕ) (ds : List ℕ) (fs : List Float)

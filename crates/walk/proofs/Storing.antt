@@ -9,7 +9,8 @@ use lib.Seq.{length-take-le}
 use Rattle.compress.specs.Wires.{total, usesOf, lengthsOf}
 use Rattle.walk.specs.declared.Walked.{Walked}
 use Rattle.walk.specs.declared.Walked.the-variants.{Done, DeadEnd, TooManyUses, EmptyList}
-use Rattle.walk.specs.Walk.{Answer, join}
+use Rattle.lists.specs.Ends.{frontOf, backOf, markedOf, Sound}
+use Rattle.walk.specs.Walk.{Answer, join, walk}
 use Rattle.walk.specs.Answered.{Traced, madeBy, leavesWalk, walkOutcome}
 
 pub uses-joined : (ws : List (List ℕ)) → usesOf ws ≡ join ws
@@ -51,3 +52,24 @@ module _ (a : Answer) (k : ℕ) (made sizes : List ℕ) where
     left DeadEnd T few eu el = rw (T, eu, el)
     left TooManyUses T few eu el = rw (T, eu, el)
     left EmptyList T few eu el = rw (T, eu, el)
+
+-- The same over the tables that the code has: the walk of r, of which n wires are copied.
+module _ {en ds ms us : List ℕ} {edges : ℕ} (S : Sound en ds edges ms us) (made sizes : List ℕ) (r : Walked) {n : ℕ}
+    (T : Traced (walk (frontOf en ds edges) (backOf en ds edges) (markedOf ms) us) (length us) made sizes r) (e : n ≡ madeBy r) where
+  few-made : (n ≤ length us) × (total (take n sizes) ≤ length us)
+  few-made = rw e (traced-few _ _ made sizes r T)
+
+  -- the wires fit a buffer that the uses fit
+  pub wires-fit : (o : ℕ) → (length made ≡ 1024) × (length sizes ≡ 1024) → length us ≤ o
+      → (n ≤ length sizes) × (total (take n sizes) ≤ length made) × (total (take n sizes) ≤ o)
+  wires-fit o long h = (omega (arith, few-made, S .few, long), omega (arith, few-made, S .few, long), omega (arith, few-made))
+
+  -- and so do their lengths
+  pub lengths-fit : (o : ℕ) → length sizes ≡ 1024 → length us ≤ o → (n ≤ length sizes) × (n ≤ o)
+  lengths-fit o long h = (omega (arith, few-made, S .few), omega (arith, few-made))
+
+  -- what the copies leave
+  pub copies-left : (out ls : List ℕ) {out′ ls′ : List ℕ} → out′ ≡ take (total (take n sizes)) made ++ drop (total (take n sizes)) out
+      → ls′ ≡ take n sizes ++ drop n ls
+      → leavesWalk r out′ ls′ ≡ walkOutcome (walk (frontOf en ds edges) (backOf en ds edges) (markedOf ms) us) out ls
+  copies-left out ls eu el = left _ _ made sizes out ls _ _ r T (S .few) (rw e at eu) (rw e at el)

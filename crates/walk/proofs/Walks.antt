@@ -7,19 +7,20 @@ use mathlib.Core.Path.{_≡_, refl, sym, ap, subst, _∙_}
 use mathlib.Core.Logic.{_≢_}
 use mathlib.Core.Bool.{Bool, true, false}
 use mathlib.Core.List.{List, [], _∷_, _++_, map}
-use lib.ListN.{length, take, drop, getD, set, length-append, length-set, length-drop, List·getD-eq-default}
+use lib.ListN.{length, take, drop, getD, set, replicate, length-append, length-set, length-drop, List·getD-eq-default}
 use lib.Seq.{length-take-le, take-suc-set, take-set-le, getD-set-other}
-use Rattle.walk.proofs.Small.{less-or}
+use Rattle.walk.proofs.Small.{less-or, zeros, front-small, back-small}
 use Rattle.walk.specs.Walk.{refuse, along, side, join, choose, walk}
 use Rattle.lists.specs.Members.{count, del, sits, at}
 use Rattle.walk.proofs.Buckets.{all-empty}
 use Rattle.step.specs.declared.Step.{Step}
 use Rattle.walk.specs.declared.Walked.{Walked}
-use Rattle.lists.specs.Lists.{entryOf, Lists, Lowest}
+use Rattle.lists.specs.Lists.{entryOf, Lists, Lowest, headsAfter, nextsAfter}
+use Rattle.lists.specs.Ends.{frontOf, backOf, markedOf, Sound}
 use Rattle.step.specs.Arrival.{exactlyOne, Went, absent, empty, many, one, second, first, causeOf, useOf}
 use Rattle.compress.specs.Wires.{total}
 use Rattle.walk.specs.Answered.{walkedOf, Traced}
-use Rattle.lists.proofs.Chains.{chain-none, node, entry-some, lists-last, lists-first, two, one-only, three}
+use Rattle.lists.proofs.Chains.{lists-all, chain-none, node, entry-some, lists-last, lists-first, two, one-only, three}
 use Rattle.walk.proofs.Steps.{going, after, after-walk, after-nil, going-refused, going-along, going-closed, after-fresh, shorter, wire-more, wire-first, wire-joined, join-snoc, map-snoc}
 
 side-second : (a b : Bool) → exactlyOne a b ≡ false → side a b ≡ 1
@@ -276,8 +277,9 @@ module _ {front back : ℕ → ℕ} {marked : ℕ → Bool} {us : List ℕ} wher
     along-stop made′ sizes′ m t ev d w ek ne ej er = stopped made′ sizes′ m t (λ g. d (ev ∙ g)) (rw ev at w) (λ g. ne (ek ∙ g)) (rw (ej, ek) at er)
 
     -- the wire is closed
-    pub along-close : {sizes′ : List ℕ} → length us ≤ 1024 → back last ≡ start → sizes′ ≡ set sizes n (taken - from) → Between front back marked us hd nx made sizes′ start taken (n + 1)
-    along-close fits e es =
+    pub along-close : {sizes′ : List ℕ} {v : ℕ} → length us ≤ 1024 → v ≡ back last → v ≡ start → sizes′ ≡ set sizes n (taken - from)
+        → Between front back marked us hd nx made sizes′ start taken (n + 1)
+    along-close fits ev vs es =
         let wire = drop from (take taken made) in
         let lw : length wire ≡ taken - from = length-drop from (take taken made) ∙ ap (λ (j : ℕ). j - from) (length-take-le taken made (omega (arith, A .count-is, A .long-made))) in
         let n-lt : n < length sizes = omega (arith, A .few, A .from-lt, A .count-is, A .long-sizes) in
@@ -295,5 +297,56 @@ module _ {front back : ℕ → ℕ} {marked : ℕ → Bool} {us : List ℕ} wher
           joined = join-snoc (A .ws) wire ∙ ap (λ (l : List ℕ). l ++ wire) (A .joined) ∙ wire-joined made from taken (omega (arith, A .from-lt));
           sized = map-snoc (A .ws) wire ∙ ap (λ (j : ℕ). map length (A .ws) ++ (j ∷ [])) lw ∙ ap (λ (l : List ℕ). l ++ ((taken - from) ∷ [])) (A .sized)
               ∙ sym (ap (λ (l : List ℕ). take (n + 1) l) es ∙ ap (λ (j : ℕ). take j (set sizes n (taken - from))) (add-one n) ∙ take-suc-set sizes n (taken - from) n-lt);
-          to = sym (going-closed front back marked start last (A .rest) wire (A .ws) (length (A .rest)) e) ∙ A .to;
+          to = sym (going-closed front back marked start last (A .rest) wire (A .ws) (length (A .rest)) (sym ev ∙ vs)) ∙ A .to;
         }
+
+-- The same over the tables that the code has, so that what the caller has checked says which they are.
+module _ {en ds ms us : List ℕ} {edges : ℕ} (S : Sound en ds edges ms us) where
+  abbrev pub Made : (hd nx made sizes : List ℕ) (start taken n : ℕ) → Type 0
+  Made = Between (frontOf en ds edges) (backOf en ds edges) (markedOf ms) us
+
+  abbrev pub Going : (hd nx made sizes : List ℕ) (start from taken n last : ℕ) → Type 0
+  Going = Along (frontOf en ds edges) (backOf en ds edges) (markedOf ms) us
+
+  -- what the walk leaves: its answer over the buffers, whose lengths stay
+  abbrev pub Left : (made sizes : List ℕ) → Walked → Type 0
+  Left made sizes r =
+      Traced (walk (frontOf en ds edges) (backOf en ds edges) (markedOf ms) us) (length us) made sizes r ×
+      ((length made ≡ 1024) × (length sizes ≡ 1024))
+
+  -- the lists of all uses are made: no wire is made yet
+  pub walk-begins : {hd nx made sizes : List ℕ} → length made ≡ 1024 → length sizes ≡ 1024
+      → hd ≡ headsAfter (frontOf en ds edges) us (replicate 4096 0) (length us)
+      → nx ≡ nextsAfter (frontOf en ds edges) us (replicate 4096 0) (replicate 1024 0) (length us) → Made hd nx made sizes 0 0 0
+  walk-begins lm ls eh en = between-start
+      (rw (eh, en) (lists-all _ us _ _ refl refl (zeros 4096) (zeros 1024) (S .few) (front-small S))) lm ls
+
+  -- a wire begins with the use that is popped
+  pub wire-begins : {hd nx made sizes hd′ : List ℕ} {start taken n r u : ℕ} → Made hd nx made sizes start taken n → taken < length us
+      → Lowest hd r
+      → u ≡ getD us (getD hd r 0 - 2) 0 → hd′ ≡ set hd r (entryOf (getD nx (getD hd r 0 - 2) 0))
+      → Going hd′ nx (set made taken u) sizes r taken (taken + 1) n u
+  wire-begins B lt low eu eh = between-begin B lt (S .few) low eu eh refl
+
+  module _ {hd nx made sizes : List ℕ} {start from taken n last v : ℕ} (A : Going hd nx made sizes start from taken n last)
+      (ev : v ≡ backOf en ds edges last) where
+    -- it goes on with the step's use
+    pub wire-goes : {s : Step} {hd′ nx′ : List ℕ} {u k : ℕ} → v ≢ start → Went (markedOf ms) us hd nx v last s hd′ nx′
+        → k ≡ causeOf s → k ≡ 0 → u ≡ useOf s → Going hd′ nx′ (set made taken u) sizes start from (taken + 1) n u
+    wire-goes d w ek z eu = along-on A (S .few) (back-small S (A .place) last (A .place-lt) (A .last-at)) ev d w ek z eu refl
+
+    -- it is closed
+    pub wire-closes : v ≡ start → Made hd nx made (set sizes n (taken - from)) start taken (n + 1)
+    wire-closes vs = along-close A (S .few) ev vs refl
+
+    -- a step stops the walk
+    pub walk-stops : {hd′ nx′ made′ : List ℕ} {k j : ℕ} {s : Step} {r : Walked} (m t : ℕ) → v ≢ start
+        → Went (markedOf ms) us hd nx v last s hd′ nx′
+        → k ≡ causeOf s → k ≢ 0 → made′ ≡ made → j ≡ k → r ≡ walkedOf j m t → Left made′ sizes r
+    walk-stops m t d w ek ne em ej er = (along-stop A _ _ m t ev d w ek ne ej er, (rw em (A .long-made), A .long-sizes))
+
+  -- all uses are taken
+  pub walk-ends : {hd nx made made′ sizes : List ℕ} {start taken n cause cause′ taken′ : ℕ} {r : Walked}
+      → Made hd nx made sizes start taken n → cause ≡ 0
+      → length us ≤ taken → made′ ≡ made → cause′ ≡ cause → taken′ ≡ taken → r ≡ walkedOf cause′ n taken′ → Left made′ sizes r
+  walk-ends B z all em ec et er = (rw em (between-done B (S .few) all (rw (ec, z, et) at er)), (rw em (B .long-made), B .long-sizes))

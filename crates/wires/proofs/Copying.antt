@@ -1,11 +1,13 @@
 -- The copying of wires into the rest of a lent buffer.
 -- Assumes nothing.
-use Prim.Native.Nat.{ℕ, _+_, _-_, _≤_, _<_}
+use Prim.Native.Nat.{ℕ, _+_, _-_, _*_, _≤_, _<_}
 use native.Mathlib.Numerals.{add-one}
 use native.Mathlib.Omega.{arith}
+use mir.Syntax.{w64}
+use mir.Val.{Fits}
 use mathlib.Core.Path.{_≡_, refl, sym, ap, _∙_}
 use mathlib.Core.List.{List, [], _∷_, _++_, append-assoc, append-nil}
-use lib.ListN.{length, take, drop, getD, length-append, length-drop, drop-of-length-le}
+use lib.ListN.{length, take, drop, getD, length-append, length-take, length-drop, drop-of-length-le}
 use lib.Seq.{length-take-le, take-suc, take-all, take-at, take-add, drop-at, drop-drop}
 use Rattle.compress.specs.Wires.{total}
 
@@ -36,6 +38,17 @@ total-room l k n h hn =
     let s : (k + 1) + (n - (k + 1)) ≡ n = omega arith in
     let t : take n l ≡ take (k + 1) l ++ take (n - (k + 1)) (drop (k + 1) l) = ap (λ (m : ℕ). take m l) (sym s) ∙ take-add (k + 1) (n - (k + 1)) l in
     omega (arith, ap total t, total-append (take (k + 1) l) (take (n - (k + 1)) (drop (k + 1) l)), total-more l k (omega arith))
+
+-- a count below another, and what is left to it
+pub count-fits : {k n : ℕ} → k < n → Fits w64 n → Fits w64 (k + 1)
+count-fits h f = omega arith
+
+-- a place in a list of m words, which a machine can hold
+pub place-fits : {x m : ℕ} → x ≤ m → m * 4 < 9223372036854775808 → Fits w64 x
+place-fits h f = omega arith
+
+pub less-left : {k n : ℕ} → k < n → n - (k + 1) < n - k
+less-left h = omega arith
 
 -- where the copying of the wires stands: k of them are copied, at uses
 pub record Copied (made sizes : List ℕ) (n : ℕ) (out₀ out : List ℕ) (at k : ℕ) : Type 0 where
@@ -68,6 +81,22 @@ module _ {made sizes : List ℕ} {n : ℕ} {out₀ : List ℕ} where
         same = ap length laid ∙ length-append (take (at + m) made) (drop (at + m) out₀) ∙ omega (arith, length-take-le (at + m) made (omega arith), length-drop (at + m) out₀);
         is = laid;
       }
+
+  -- the next wire lies in what is made, and fits what is left of the buffer
+  pub next-lies : {out : List ℕ} {at k : ℕ} → Copied made sizes n out₀ out at k → k < n → n ≤ length sizes
+      → total (take n sizes) ≤ length made
+      → at + getD sizes k 0 ≤ length made
+  next-lies {out} {at} {k} C lt hn hm = omega (arith, total-room sizes k n lt hn, C .at-is)
+
+  pub next-fits : {out : List ℕ} {at k : ℕ} → Copied made sizes n out₀ out at k → k < n
+      → (n ≤ length sizes) × (total (take n sizes) ≤ length made) × (total (take n sizes) ≤ length out₀)
+      → (getD sizes k 0 ≤ length (take (length made - at) (drop at made))) × (getD sizes k 0 ≤ length (take (length out - at) (drop at out)))
+  next-fits {out} {at} {k} C lt p =
+      let room = total-room sizes k n lt (p .0) in (
+        simp (length-take, length-drop) (omega (arith, room, C .at-is, p .1)),
+        simp (length-take, length-drop)
+            (omega (arith, room, C .at-is, C .same, p .2)),
+      )
 
   pub copied-done : {out : List ℕ} {at k : ℕ} → Copied made sizes n out₀ out at k → n ≤ k → out ≡ take (total (take n sizes)) made ++ drop (total (take n sizes)) out₀
   copied-done {out} {at} {k} C h =

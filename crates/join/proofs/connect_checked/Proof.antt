@@ -16,10 +16,10 @@ connect-at-requires : tie.Need-connect-at-requires
 connect-at-requires c κs = search needs
 
 same-length : tie.Need-same-length
-same-length c = search needs
+same-length c = c .before .before .before .before .connect-at .kept .1 .1 .1 .1 .0
 
 same-length-2 : tie.Need-same-length-2
-same-length-2 c = search needs
+same-length-2 c = c .before .before .before .before .connect-at .kept .1 .1 .1 .1 .1 .0
 
 returns : tie.Need-returns
 returns c =
@@ -33,10 +33,10 @@ connect-at-requires-2 : tie.Need-connect-at-requires-2
 connect-at-requires-2 c κs = search needs
 
 same-length-3 : tie.Need-same-length-3
-same-length-3 c = search needs
+same-length-3 c = c .before .before .before .before .connect-at2 .kept .1 .1 .1 .1 .0
 
 same-length-4 : tie.Need-same-length-4
-same-length-4 c = search needs
+same-length-4 c = c .before .before .before .before .connect-at2 .kept .1 .1 .1 .1 .1 .0
 
 returns-2 : tie.Need-returns-2
 returns-2 c =

@@ -1,10 +1,10 @@
 -- `join::connect_open_boundaries` meets its contract. Assumes nothing.
-use mathlib.Core.Path.{ap, sym, _∙_}
+use mathlib.Core.Path.{ap, sym, _∙_, refl}
 use borrow.Author.Needs.{needs}
-use Rattle.checks.proofs.Small.{refuses, answers}
+use Rattle.checks.proofs.Small.{refuses}
 use Rattle.joined.specs.Outcome.{joinLeaves}
 use Rattle.join.specs.Contract.{joinOutcome}
-use Rattle.join.proofs.Accepted.{join-accepted, join-small}
+use Rattle.join.proofs.Accepted.{join-accepted, join-small, join-told}
 use Rattle.join.proofs.connect_open_boundaries.Statement.{statement}
 use Rattle.join.proofs.connect_open_boundaries.Tie as tie
 
@@ -15,10 +15,10 @@ refusal-of-requires : tie.Need-refusal-of-requires
 refusal-of-requires c κs = search needs
 
 same-length : tie.Need-same-length
-same-length c = search needs
+same-length c = refl
 
 same-length-2 : tie.Need-same-length-2
-same-length-2 c = search needs
+same-length-2 c = refl
 
 returns : tie.Need-returns
 unfolding joinOutcome
@@ -43,16 +43,19 @@ connect-checked-requires c κs =
     (a .joinable, a .first-some, a .second-some)
 
 same-length-3 : tie.Need-same-length-3
-same-length-3 c = search needs
+same-length-3 c = c .before .before .before .before .connect-checked .kept .1 .1 .1 .1 .0
 
 same-length-4 : tie.Need-same-length-4
-same-length-4 c = search needs
+same-length-4 c = c .before .before .before .before .connect-checked .kept .1 .1 .1 .1 .1 .0
 
 returns-2 : tie.Need-returns-2
-unfolding joinOutcome
 returns-2 c =
-    let s = c .before .before .before .before .before .before .before .before .before .before .before .before .before .before .before .before .before .before .before in
-    c .before .before .before .before .connect-checked .ensures ∙ ap (joinLeaves (s .args .uses .now) (s .args .lengths .now)) (answers _ _ _ (c .before .before .before .before .before .before .before .before .before .before .join-cause .ensures) (c .before .before .before .before .before .before .before .before .before .if1 .left))
+    let a = c .before .before .before .before .before .before .before .before .before .before .before .before .before .before .before .before .before .before .before .args in
+    join-told (a .edge-numbers .now) (a .edge-floats .now) (a .first .now) (a .second .now) (a .uses .now) (a .lengths .now)
+    (a .vertices) (a .edges) (a .first-count) (a .second-count) (a .wires) (a .v0) (a .v1) _
+    (c .before .before .before .before .before .before .before .before .before .before .join-cause .ensures)
+    (c .before .before .before .before .before .before .before .before .before .if1 .left)
+    (c .before .before .before .before .connect-checked .ensures)
 
 pub connect-open-boundaries-spec : {M : Type 1} → statement M
 connect-open-boundaries-spec =

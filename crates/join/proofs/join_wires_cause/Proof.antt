@@ -26,7 +26,7 @@ total-uses-requires : tie.Need-total-uses-requires
 total-uses-requires c κs = search needs
 
 sub-if7 : tie.Need-sub-if7
-sub-if7 c = search needs
+sub-if7 c = c .before .if6 .left
 
 returns-7 : tie.Need-returns-7
 returns-7 c = many-uses _ _ _ _ _ _ _ _ (c .before .before .before .before .before .before .before .if1 .left) (c .before .before .before .before .before .before .if2 .left) (c .before .before .before .before .before .if3 .left) (c .before .before .before .before .if4 .left) _ (c .before .total-uses .ensures) (c .if7 .taken)
@@ -35,13 +35,13 @@ returns-8 : tie.Need-returns-8
 returns-8 c = no-uses _ _ _ _ _ _ _ _ (c .before .before .before .before .before .before .before .before .if1 .left) (c .before .before .before .before .before .before .before .if2 .left) (c .before .before .before .before .before .before .if3 .left) (c .before .before .before .before .before .if4 .left) _ (c .before .before .total-uses .ensures) (c .before .before .before .before .if5 .left) (c .before .before .before .if6 .left) (c .before .if7 .left) (c .if8 .taken)
 
 use-rows-requires : tie.Need-use-rows-requires
-use-rows-requires c κs = search needs
+use-rows-requires c κs = c .before .before .before .before .before .before .if3 .left
 
 use-rows-requires-2 : tie.Need-use-rows-requires-2
-use-rows-requires-2 c κs = search needs
+use-rows-requires-2 c κs = c .before .before .before .before .before .before .if4 .left
 
 use-rows-requires-3 : tie.Need-use-rows-requires-3
-use-rows-requires-3 c κs = search needs
+use-rows-requires-3 c κs = c .before .before .if8 .left
 
 lower-requires : tie.Need-lower-requires
 lower-requires c κs = search needs
@@ -50,8 +50,17 @@ lower-requires-2 : tie.Need-lower-requires-2
 lower-requires-2 c κs = search needs
 
 returns-9 : tie.Need-returns-9
-returns-9 c = uses-told _ _ _ _ _ _ _ _ (c .before .before .before .before .before .before .before .before .before .before .before .before .before .if1 .left) (c .before .before .before .before .before .before .before .before .before .before .before .before .if2 .left) (c .before .before .before .before .before .before .before .before .before .before .before .if3 .left) (c .before .before .before .before .before .before .before .before .before .before .if4 .left) _ (c .before .before .before .before .before .before .before .total-uses .ensures) (c .before .before .before .before .before .before .before .before .before .if5 .left) (c .before .before .before .before .before .before .before .before .if6 .left) (c .before .before .before .before .before .before .if7 .left) (c .before .before .before .before .before .if8 .left) _
-    (rw (c .lower2 .ensures, c .before .lower .ensures, c .before .before .use-rows3 .ensures, c .before .before .before .use-rows2 .ensures, c .before .before .before .before .use-rows .ensures))
+returns-9 c = uses-told _ _ _ _ _ _ _ _
+    (c .before .before .before .before .before .before .before .before .before .before .before .before .before .if1 .left)
+    (c .before .before .before .before .before .before .before .before .before .before .before .before .if2 .left)
+    (c .before .before .before .before .before .before .before .before .before .before .before .if3 .left)
+    (c .before .before .before .before .before .before .before .before .before .before .if4 .left) _
+    (c .before .before .before .before .before .before .before .total-uses .ensures)
+    (c .before .before .before .before .before .before .before .before .before .if5 .left)
+    (c .before .before .before .before .before .before .before .before .if6 .left)
+    (c .before .before .before .before .before .before .if7 .left) (c .before .before .before .before .before .if8 .left)
+    (c .before .before .before .before .use-rows .ensures) (c .before .before .before .use-rows2 .ensures)
+    (c .before .before .use-rows3 .ensures) (c .before .lower .ensures) (c .lower2 .ensures)
 
 pub join-wires-cause-spec : {M : Type 1} → statement M
 join-wires-cause-spec =

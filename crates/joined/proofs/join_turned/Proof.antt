@@ -1,18 +1,15 @@
 -- `joined::join_turned` meets its contract. Assumes nothing.
-use mathlib.Core.Path.{ap, sym, _∙_}
-use Prim.Native.Nat.{_+_, _-_, _≤_, _<_}
+use mathlib.Core.Path.{ap, sym, refl}
 use native.Mathlib.Omega.{arith}
 use borrow.Author.Needs.{needs}
-use lib.ListN.{length, getD, take}
+use lib.ListN.{take}
 use lib.Seq.{length-take-le}
 use Rattle.compress.specs.Rows.{edgeAt}
 use Rattle.compress.specs.Wires.{wiresOf}
-use Rattle.compress.proofs.Wires.{part-size}
 use Rattle.wires.specs.Turn.{turned}
 use Rattle.joined.specs.Outcome.{joinLeaves}
-use Rattle.laying.proofs.Places.{part-rows}
-use Rattle.joined.proofs.Replacing.{wire-count, wire-there, wire-within}
-use Rattle.joined.proofs.Joining.{joined-no-place, joined-no-wire, joined-none, joined-found}
+use Rattle.joined.proofs.Replacing.{wire-count, wire-within}
+use Rattle.joined.proofs.Joining.{joined-no-place, joined-no-wire, laying-asks, call-none, call-stored}
 use Rattle.joined.proofs.join_turned.Statement.{statement}
 use Rattle.joined.proofs.join_turned.Tie as tie
 
@@ -28,10 +25,10 @@ find-wire-requires : tie.Need-find-wire-requires
 find-wire-requires c κs = search needs
 
 same-length : tie.Need-same-length
-same-length c = search needs
+same-length c = refl
 
 same-length-2 : tie.Need-same-length-2
-same-length-2 c = search needs
+same-length-2 c = refl
 
 returns-2 : tie.Need-returns-2
 returns-2 c =
@@ -77,26 +74,26 @@ slice-aggregate-lay-joined c = search needs
 
 lay-joined-requires : tie.Need-lay-joined-requires
 lay-joined-requires c κs =
-    let s = c .before .before .before .before .before .before .before .before .before .before .before .before .before .before .before .before .before .before in
-    let from = c .before .before .before .before .total-uses .result in
-    let to = from + getD (s .args .lengths .now) (c .before .before .before .before .before .before .before .find-wire .result) 0 in
-    let w = wire-within (s .args .uses .now) (s .args .lengths .now) (s .args .wires) (c .before .before .before .before .before .before .before .find-wire .result) (s .pre .0 .lies) (c .before .before .before .before .before .before .if2 .left) _ (c .before .before .before .before .total-uses .ensures) in
-    let lent : to ≤ length (s .args .uses .now) = omega (arith, s .pre .0 .lies .uses) in
-    let l = part-size (s .args .uses .now) from to lent in
-    ((s .pre .1, omega (arith, c .before .before .before .before .before .before .before .before .before .before .if1 .left), omega (arith, l, s .pre .0 .few), search needs), (s .pre .0 .first-rows, part-rows (s .args .edge-numbers .now) (s .args .edge-floats .now) (s .args .uses .now) _ from to w (s .pre .0 .lies .uses) (s .pre .0 .rows)))
+    let p = c .before .before .before .before .before .before .before .before .before .before .before .before .before .before .before .before .before .before .pre in
+    laying-asks (p .0) (p .1) (c .before .before .before .before .before .before .before .before .before .before .if1 .left)
+    (c .before .before .before .before .before .before .if2 .left) (c .before .before .before .before .total-uses .ensures) refl
 
 same-length-3 : tie.Need-same-length-3
-same-length-3 c = search needs
+same-length-3 c = refl
 
 same-length-4 : tie.Need-same-length-4
-same-length-4 c = search needs
+same-length-4 c = refl
 
 returns-3 : tie.Need-returns-3
 returns-3 c =
     let s = c .before .before .before .before .before .before .before .before .before .before .before .before .before .before .before .before .before .before .before .before .before in
-    let n = wire-count (s .args .uses .now) (s .args .lengths .now) (s .args .wires) (s .pre .0 .lies .lengths) in
-    let h : c .before .before .before .before .before .before .before .before .before .before .find-wire .result < length (wiresOf (s .args .uses .now) (take (s .args .wires) (s .args .lengths .now))) = omega (arith, n, c .before .before .before .before .before .before .before .before .before .if2 .left) in
-    ap (joinLeaves (s .args .uses .now) (s .args .lengths .now)) (joined-none (edgeAt (s .args .edge-numbers .now) (s .args .edge-floats .now)) (s .args .v0) (s .args .v1) (turned (s .args .i) (s .args .first .now)) (s .args .second .now) (wiresOf (s .args .uses .now) (take (s .args .wires) (s .args .lengths .now))) _ (c .before .before .before .before .before .before .before .before .before .before .before .before .before .before .find-index .ensures) (c .before .before .before .before .before .before .before .before .before .before .before .before .before .if1 .left) (c .before .before .before .before .before .before .before .before .before .before .find-wire .result) (c .before .before .before .before .before .before .before .before .before .before .find-wire .ensures) h _ _ (rw (wire-there (s .args .uses .now) (s .args .lengths .now) (s .args .wires) (c .before .before .before .before .before .before .before .before .before .before .find-wire .result) (s .pre .0 .lies) (c .before .before .before .before .before .before .before .before .before .if2 .left) _ (c .before .before .before .before .before .before .before .total-uses .ensures)) at (c .before .before .lay-joined .ensures .0 .0)) (c .if3 .taken))
+    call-none (s .pre .0) (s .args .i) (s .args .v0) (s .args .v1)
+    (c .before .before .before .before .before .before .before .before .before .before .before .before .before .before .find-index .ensures)
+    (c .before .before .before .before .before .before .before .before .before .before .before .before .before .if1 .left)
+    (c .before .before .before .before .before .before .before .before .before .before .find-wire .ensures)
+    (c .before .before .before .before .before .before .before .before .before .if2 .left)
+    (c .before .before .before .before .before .before .before .total-uses .ensures) _ _
+    (c .before .before .lay-joined .ensures .0 .0) (c .if3 .taken)
 
 array-share-prefix-out : tie.Need-array-share-prefix-out
 array-share-prefix-out c = search needs
@@ -111,17 +108,23 @@ replace-wire-requires c κs =
     (s .pre .0 .lies, c .before .before .before .before .before .before .before .before .before .before .before .before .if2 .left, omega (arith, l, c .before .before .before .before .before .lay-joined .ensures .0 .1))
 
 same-length-5 : tie.Need-same-length-5
-same-length-5 c = search needs
+same-length-5 c = c .before .before .before .before .replace-wire .kept .0
 
 same-length-6 : tie.Need-same-length-6
-same-length-6 c = search needs
+same-length-6 c = c .before .before .before .before .replace-wire .kept .1 .0
 
 returns-4 : tie.Need-returns-4
 returns-4 c =
     let s = c .before .before .before .before .before .before .before .before .before .before .before .before .before .before .before .before .before .before .before .before .before .before .before .before .before .before .before .before .before in
-    let n = wire-count (s .args .uses .now) (s .args .lengths .now) (s .args .wires) (s .pre .0 .lies .lengths) in
-    let h : c .before .before .before .before .before .before .before .before .before .before .before .before .before .before .before .before .before .before .find-wire .result < length (wiresOf (s .args .uses .now) (take (s .args .wires) (s .args .lengths .now))) = omega (arith, n, c .before .before .before .before .before .before .before .before .before .before .before .before .before .before .before .before .before .if2 .left) in
-    c .before .before .before .before .replace-wire .ensures ∙ ap (joinLeaves (s .args .uses .now) (s .args .lengths .now)) (joined-found (edgeAt (s .args .edge-numbers .now) (s .args .edge-floats .now)) (s .args .v0) (s .args .v1) (turned (s .args .i) (s .args .first .now)) (s .args .second .now) (wiresOf (s .args .uses .now) (take (s .args .wires) (s .args .lengths .now))) _ (c .before .before .before .before .before .before .before .before .before .before .before .before .before .before .before .before .before .before .before .before .before .before .find-index .ensures) (c .before .before .before .before .before .before .before .before .before .before .before .before .before .before .before .before .before .before .before .before .before .if1 .left) (c .before .before .before .before .before .before .before .before .before .before .before .before .before .before .before .before .before .before .find-wire .result) (c .before .before .before .before .before .before .before .before .before .before .before .before .before .before .before .before .before .before .find-wire .ensures) h _ _ (rw (wire-there (s .args .uses .now) (s .args .lengths .now) (s .args .wires) (c .before .before .before .before .before .before .before .before .before .before .before .before .before .before .before .before .before .before .find-wire .result) (s .pre .0 .lies) (c .before .before .before .before .before .before .before .before .before .before .before .before .before .before .before .before .before .if2 .left) _ (c .before .before .before .before .before .before .before .before .before .before .before .before .before .before .before .total-uses .ensures)) at (c .before .before .before .before .before .before .before .before .before .before .lay-joined .ensures .0 .0)) (c .before .before .before .before .before .before .before .before .if3 .left))
+    call-stored (s .pre .0) (s .args .i) (s .args .v0) (s .args .v1)
+    (c .before .before .before .before .before .before .before .before .before .before .before .before .before .before .before .before .before .before .before .before .before .before .find-index .ensures)
+    (c .before .before .before .before .before .before .before .before .before .before .before .before .before .before .before .before .before .before .before .before .before .if1 .left)
+    (c .before .before .before .before .before .before .before .before .before .before .before .before .before .before .before .before .before .before .find-wire .ensures)
+    (c .before .before .before .before .before .before .before .before .before .before .before .before .before .before .before .before .before .if2 .left)
+    (c .before .before .before .before .before .before .before .before .before .before .before .before .before .before .before .total-uses .ensures) _ _
+    (c .before .before .before .before .before .before .before .before .before .before .lay-joined .ensures .0 .0)
+    (c .before .before .before .before .replace-wire .ensures)
+    (c .before .before .before .before .before .before .before .before .if3 .left)
 
 pub join-turned-spec : {M : Type 1} → statement M
 join-turned-spec =

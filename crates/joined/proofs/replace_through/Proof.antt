@@ -1,5 +1,5 @@
 -- `joined::replace_through` meets its contract. Assumes nothing.
-use mathlib.Core.Path.{sym}
+use mathlib.Core.Path.{sym, _∙_}
 use Prim.Native.Nat.{_≤_}
 use native.Mathlib.Omega.{arith}
 use borrow.Author.Needs.{needs}
@@ -43,10 +43,10 @@ lay-requires-2 c κs =
     omega (arith, l, s .pre .0 .1, c .before .before .before .before .lay .kept)
 
 same-length : tie.Need-same-length
-same-length c = search needs
+same-length c = c .before .before .lay2 .kept .1 .0 ∙ c .before .before .before .before .before .before .before .lay .kept .1 .0
 
 same-length-2 : tie.Need-same-length-2
-same-length-2 c = search needs
+same-length-2 c = c .before .before .before .before .before .before .before .before .before .before .before .copy .kept .1 .1 .0
 
 returns : tie.Need-returns
 returns c =

@@ -1,5 +1,5 @@
 -- `joined::replace_wire` meets its contract. Assumes nothing.
-use mathlib.Core.Path.{sym, _∙_}
+use mathlib.Core.Path.{sym, _∙_, refl}
 use native.Mathlib.Omega.{arith}
 use borrow.Author.Tests.{not-true, not-false}
 use borrow.Author.Needs.{needs}
@@ -51,10 +51,10 @@ uses-fit-requires : tie.Need-uses-fit-requires
 uses-fit-requires c κs = search needs
 
 same-length : tie.Need-same-length
-same-length c = search needs
+same-length c = refl
 
 same-length-2 : tie.Need-same-length-2
-same-length-2 c = search needs
+same-length-2 c = refl
 
 returns : tie.Need-returns
 returns c =
@@ -78,7 +78,7 @@ slice-write-lengths : tie.Need-slice-write-lengths
 slice-write-lengths c = search needs
 
 same-length-3 : tie.Need-same-length-3
-same-length-3 c = search needs
+same-length-3 c = c .before .before .replace-uses .kept .0
 
 same-length-4 : tie.Need-same-length-4
 same-length-4 c = search needs

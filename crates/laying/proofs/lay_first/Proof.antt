@@ -1,4 +1,5 @@
 -- `laying::lay_first` meets its contract. Assumes nothing.
+use mathlib.Core.Path.{_∙_}
 use Prim.Native.Nat.{_≤_}
 use native.Mathlib.Omega.{arith}
 use borrow.Author.Needs.{needs}
@@ -22,7 +23,7 @@ lay-turned-requires-2 c κs =
     (omega (arith, c .before .before .before .before .before .find-index .ensures), omega (arith, c .before .before .before .before .before .before .before .before .before .before .before .pre .1, c .before .before .before .lay-turned .kept))
 
 same-length : tie.Need-same-length
-same-length c = search needs
+same-length c = c .before .before .lay-turned2 .kept .1 .1 .0 ∙ c .before .before .before .before .before .before .lay-turned .kept .1 .1 .0
 
 returns : tie.Need-returns
 returns c =

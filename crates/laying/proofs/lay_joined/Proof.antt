@@ -14,7 +14,7 @@ lay-through-requires : tie.Need-lay-through-requires
 lay-through-requires c κs = (c .before .before .before .before .before .before .before .before .before .pre .0, (c .before .before .before .before .before .before .before .before .before .pre .1, (omega (arith, c .before .before .if1 .taken), omega arith)))
 
 same-length : tie.Need-same-length
-same-length c = search needs
+same-length c = c .before .before .before .lay-through .kept .1 .1 .1 .1 .1 .1 .1 .1 .1 .0
 
 returns : tie.Need-returns
 returns c = search needs
@@ -26,7 +26,7 @@ lay-through-requires-2 : tie.Need-lay-through-requires-2
 lay-through-requires-2 c κs = (c .before .before .before .before .before .before .before .before .before .pre .0, (c .before .before .before .before .before .before .before .before .before .pre .1, (omega (arith, c .before .before .before .before .before .before .before .before .before .pre .0 .2), omega arith)))
 
 same-length-2 : tie.Need-same-length-2
-same-length-2 c = search needs
+same-length-2 c = c .before .before .before .lay-through2 .kept .1 .1 .1 .1 .1 .1 .1 .1 .1 .0
 
 returns-2 : tie.Need-returns-2
 returns-2 c = search needs

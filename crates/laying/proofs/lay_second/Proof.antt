@@ -1,6 +1,6 @@
 -- `laying::lay_second` meets its contract. Assumes nothing.
 use Prim.Native.Nat.{_+_, _≤_, _<_}
-use mathlib.Core.Path.{refl}
+use mathlib.Core.Path.{refl, _∙_}
 use native.Mathlib.Omega.{arith}
 use borrow.Author.Needs.{needs}
 use lib.ListN.{length}
@@ -24,7 +24,7 @@ add-result : tie.Need-add-result
 add-result c = search needs
 
 same-length : tie.Need-same-length
-same-length c = search needs
+same-length c = c .before .before .lay-turned2 .kept .1 .1 .0 ∙ c .before .before .before .before .before .before .lay-turned .kept .1 .1 .0
 
 returns-2 : tie.Need-returns-2
 returns-2 c =

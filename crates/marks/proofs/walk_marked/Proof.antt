@@ -14,10 +14,10 @@ walk-within-requires : tie.Need-walk-within-requires
 walk-within-requires c κs = (c .before .before .before .before .before .before .before .before .before .before .pre .0, ((c .before .before .before .if1 .taken, zeros 64), c .before .before .before .before .before .before .before .before .before .before .pre .1))
 
 same-length : tie.Need-same-length
-same-length c = search needs
+same-length c = c .before .before .before .before .before .walk-within .kept .1 .1 .1 .1 .1 .1 .1 .0
 
 same-length-2 : tie.Need-same-length-2
-same-length-2 c = search needs
+same-length-2 c = c .before .before .before .before .before .walk-within .kept .1 .1 .1 .1 .1 .1 .1 .1 .0
 
 returns : tie.Need-returns
 returns c = search needs
@@ -29,10 +29,10 @@ walk-within-requires-2 : tie.Need-walk-within-requires-2
 walk-within-requires-2 c κs = (c .before .before .before .before .before .before .before .before .before .before .pre .0, ((c .before .before .before .before .before .before .before .before .before .before .pre .0 .below, zeros 4096), c .before .before .before .before .before .before .before .before .before .before .pre .1))
 
 same-length-3 : tie.Need-same-length-3
-same-length-3 c = search needs
+same-length-3 c = c .before .before .before .before .before .walk-within2 .kept .1 .1 .1 .1 .1 .1 .1 .0
 
 same-length-4 : tie.Need-same-length-4
-same-length-4 c = search needs
+same-length-4 c = c .before .before .before .before .before .walk-within2 .kept .1 .1 .1 .1 .1 .1 .1 .1 .0
 
 returns-2 : tie.Need-returns-2
 returns-2 c = search needs

@@ -1,10 +1,7 @@
 -- `marks::walk_within` meets its contract. Assumes nothing.
-use mathlib.Core.Path.{refl, sym, ap}
-use Prim.Native.Nat.{ℕ}
+use mathlib.Core.Path.{refl, _∙_}
 use native.Mathlib.Omega.{arith}
-use lib.ListN.{length, length-replicate}
-use lib.Seq.{length-take-le}
-use Rattle.marks.proofs.Walking.{marked-same, length-walk, uses-laid, sound, walked}
+use Rattle.marks.proofs.Walking.{prefix-length, walk-asks, walk-leaves}
 use borrow.Author.Needs.{needs}
 use Rattle.marks.proofs.walk_within.Statement.{statement}
 use Rattle.marks.proofs.walk_within.Tie as tie
@@ -24,7 +21,7 @@ mark-new-requires : tie.Need-mark-new-requires
 mark-new-requires c κs = search needs
 
 slice-aggregate-copy : tie.Need-slice-aggregate-copy
-slice-aggregate-copy c = search needs
+slice-aggregate-copy c = refl
 
 copy-requires : tie.Need-copy-requires
 copy-requires c κs = search needs
@@ -39,29 +36,38 @@ array-share-prefix-to-walk : tie.Need-array-share-prefix-to-walk
 array-share-prefix-to-walk c = search needs
 
 slice-aggregate-walk-wires : tie.Need-slice-aggregate-walk-wires
-slice-aggregate-walk-wires c = sym (length-take-le _ _ (omega (arith, c .before .before .before .before .before .before .before .before .before .before .before .before .before .before .before .before .before .before .before .before .before .before .before .pre .0 .few, c .before .before .before .signup-new-edges .kept)))
+slice-aggregate-walk-wires c = prefix-length _
+    (c .before .before .before .before .before .before .before .before .before .before .before .before .before .before .before .before .before .before .before .before .before .before .before .pre .0 .few)
+    (c .before .before .before .signup-new-edges .kept .0 ∙ c .before .before .before .before .before .before .copy .kept .1 .1 .0)
 
 walk-wires-requires : tie.Need-walk-wires-requires
 walk-wires-requires c κs =
-    let W = c .before .before .before .before .before .before .before .before .before .before .before .before .before .before .before .before .before .before .before .before .before .before .before .before .before .pre .0 in
-    let u = uses-laid _ _ _ _ _ _ W _ _ _ _ (length-replicate {A = ℕ} 1024 0) (c .before .before .before .before .before .before .before .before .copy .ensures) (c .before .before .before .before .before .signup-new-edges .ensures) refl in
-    (sound _ _ _ _ _ _ W _ _ (omega (arith, c .before .before .before .before .before .before .before .before .before .before .before .before .before .before .before .before .before .before .before .before .before .before .before .before .before .pre .1 .0 .0, c .before .before .before .before .before .before .before .before .before .before .before .before .mark-new .kept, c .before .before .before .before .before .before .before .before .before .before .before .before .before .before .before .before .duplicated-edges .kept)) u, (omega (arith, ap length u, length-walk _ _ _ _ _ _ W, c .before .before .before .before .before .before .before .before .before .before .before .before .before .before .before .before .before .before .before .before .before .before .before .before .before .pre .1 .1), omega (arith, ap length u, length-walk _ _ _ _ _ _ W, c .before .before .before .before .before .before .before .before .before .before .before .before .before .before .before .before .before .before .before .before .before .before .before .before .before .pre .1 .1)))
+    let p = c .before .before .before .before .before .before .before .before .before .before .before .before .before .before .before .before .before .before .before .before .before .before .before .before .before .pre in
+    walk-asks (p .0) (c .before .before .before .before .before .before .before .before .copy .ensures)
+    (c .before .before .before .before .before .signup-new-edges .ensures) _ _ _ _ (p .1 .0 .0)
+    (c .before .before .before .before .before .before .before .before .before .before .before .before .mark-new .kept .0
+    ∙ c .before .before .before .before .before .before .before .before .before .before .before .before .before .before .before .before .duplicated-edges .kept .1 .0)
+    (p .1 .1)
 
 same-length : tie.Need-same-length
-same-length c = search needs
+same-length c = c .before .before .before .before .before .before .before .before .before .before .before .before .before .before .before .before .before .mark-new .kept .0
+    ∙ c .before .before .before .before .before .before .before .before .before .before .before .before .before .before .before .before .before .before .before .before .before .duplicated-edges .kept .1 .0
 
 same-length-2 : tie.Need-same-length-2
-same-length-2 c = search needs
+same-length-2 c = c .before .before .before .before .walk-wires .kept .1 .1 .1 .1 .1 .0
 
 same-length-3 : tie.Need-same-length-3
-same-length-3 c = search needs
+same-length-3 c = c .before .before .before .before .walk-wires .kept .1 .1 .1 .1 .1 .1 .0
 
 returns : tie.Need-returns
 returns c =
-    let W = c .before .before .before .before .before .before .before .before .before .before .before .before .before .before .before .before .before .before .before .before .before .before .before .before .before .before .before .before .before .before .pre .0 in
-    let u = uses-laid _ _ _ _ _ _ W _ _ _ _ (length-replicate {A = ℕ} 1024 0) (c .before .before .before .before .before .before .before .before .before .before .before .before .before .copy .ensures) (c .before .before .before .before .before .before .before .before .before .before .signup-new-edges .ensures) refl in
-    let m = marked-same _ _ _ _ _ _ W _ (c .before .before .before .before .before .before .before .before .before .before .before .before .before .before .before .before .before .before .before .before .before .before .before .before .before .before .before .before .before .before .pre .1 .0 .0) (c .before .before .before .before .before .before .before .before .before .before .before .before .before .before .before .before .before .before .before .before .before .duplicated-edges .last .1 .0) (c .before .before .before .before .before .before .before .before .before .before .before .before .before .before .before .before .before .mark-new .last .0) (c .before .before .before .before .before .before .before .before .before .before .before .before .before .before .before .before .before .mark-new .ensures) (c .before .before .before .before .before .before .before .before .before .before .before .before .before .before .before .before .before .before .before .before .before .duplicated-edges .kept .1 .0) (c .before .before .before .before .before .before .before .before .before .before .before .before .before .before .before .before .before .before .before .before .before .duplicated-edges .ensures) in
-    walked _ _ _ _ _ _ W (c .before .before .before .before .before .before .before .before .before .before .before .before .before .before .before .before .before .mark-new .last .0) _ _ _ _ u m (c .before .before .before .before .walk-wires .ensures)
+    let p = c .before .before .before .before .before .before .before .before .before .before .before .before .before .before .before .before .before .before .before .before .before .before .before .before .before .before .before .before .before .before .pre in
+    let d = c .before .before .before .before .before .before .before .before .before .before .before .before .before .before .before .before .before .before .before .before .before .duplicated-edges in
+    let m = c .before .before .before .before .before .before .before .before .before .before .before .before .before .before .before .before .before .mark-new in
+    walk-leaves (p .0) (c .before .before .before .before .before .before .before .before .before .before .before .before .before .copy .ensures)
+    (c .before .before .before .before .before .before .before .before .before .before .signup-new-edges .ensures) _
+    (d .last .1 .0) (m .last .0) _ _ (p .1 .0 .0) (m .ensures) (d .kept .1 .0) (d .ensures)
+    (c .before .before .before .before .walk-wires .ensures)
 
 pub walk-within-spec : {M : Type 1} → statement M
 walk-within-spec =

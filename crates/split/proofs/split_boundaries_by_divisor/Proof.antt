@@ -1,4 +1,5 @@
 -- `split::split_boundaries_by_divisor` meets its contract. Assumes nothing.
+use mathlib.Core.Path.{refl}
 use native.Mathlib.Omega.{arith}
 use Rattle.split_causes.proofs.Accepted.{split-checked}
 use Rattle.split_causes.specs.Causes.{lentSplit}
@@ -14,16 +15,16 @@ refusal-of-requires : tie.Need-refusal-of-requires
 refusal-of-requires c κs = search needs
 
 same-length : tie.Need-same-length
-same-length c = search needs
+same-length c = refl
 
 same-length-2 : tie.Need-same-length-2
-same-length-2 c = search needs
+same-length-2 c = refl
 
 same-length-3 : tie.Need-same-length-3
-same-length-3 c = search needs
+same-length-3 c = refl
 
 same-length-4 : tie.Need-same-length-4
-same-length-4 c = search needs
+same-length-4 c = refl
 
 returns : tie.Need-returns
 returns c =
@@ -74,16 +75,16 @@ split-checked-requires c κs =
     (lent-walk l C (c .before .before .before .before .before .before .before .before .total-uses .result) (c .before .before .before .before .before .before .before .total-uses2 .result) (c .before .before .before .before .before .before .before .before .total-uses .ensures) (c .before .before .before .before .before .before .before .total-uses2 .ensures), lent-room l C (c .before .before .before .before .before .before .before .before .total-uses .result) (c .before .before .before .before .before .before .before .total-uses2 .result) (c .before .before .before .before .before .before .before .before .total-uses .ensures) (c .before .before .before .before .before .before .before .total-uses2 .ensures))
 
 same-length-5 : tie.Need-same-length-5
-same-length-5 c = search needs
+same-length-5 c = c .before .before .before .before .before .before .before .before .split-checked .kept .0
 
 same-length-6 : tie.Need-same-length-6
-same-length-6 c = search needs
+same-length-6 c = c .before .before .before .before .before .before .before .before .split-checked .kept .1 .0
 
 same-length-7 : tie.Need-same-length-7
-same-length-7 c = search needs
+same-length-7 c = c .before .before .before .before .before .before .before .before .split-checked .kept .1 .1 .1 .1 .1 .1 .0
 
 same-length-8 : tie.Need-same-length-8
-same-length-8 c = search needs
+same-length-8 c = c .before .before .before .before .before .before .before .before .split-checked .kept .1 .1 .1 .1 .1 .1 .1 .0
 
 returns-2 : tie.Need-returns-2
 returns-2 c =

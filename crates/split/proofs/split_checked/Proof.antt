@@ -1,14 +1,14 @@
 -- `split::split_checked` meets its contract. Assumes nothing.
-use Prim.Native.Nat.{_≤_}
-use native.Mathlib.Omega.{arith}
 use Rattle.marks.specs.Walking.{lentWalk}
 use borrow.Author.Needs.{needs}
-use Rattle.split.proofs.Storing.{seams-le, stored}
+use Rattle.split.proofs.Storing.{seams-fit, edges-fit, stored}
 use Rattle.split.proofs.split_checked.Statement.{statement}
 use Rattle.split.proofs.split_checked.Tie as tie
 
 walk-marked-requires : tie.Need-walk-marked-requires
-walk-marked-requires c κs = search needs
+walk-marked-requires c κs =
+    let p = c .before .before .before .before .before .before .before .before .before .before .before .pre in
+    (p .0, (p .1 .uses, p .1 .lengths))
 
 seams-after-requires : tie.Need-seams-after-requires
 seams-after-requires c κs = search needs
@@ -16,32 +16,31 @@ seams-after-requires c κs = search needs
 create-new-edges-requires : tie.Need-create-new-edges-requires
 create-new-edges-requires c κs =
     let s = c .before .before .before .before .before .before .before .before .before .before .before .before .before .before .before .before .before .before .before in
-    let n = c .before .before .seams-after in
-    let h : n .result ≤ s .args .pairs = rw (n .ensures) (seams-le (c .before .before .before .before .before .before .before .walk-marked .result) (s .args .pairs)) in
     let R = s .pre .1 in
-    ((omega (arith, h, R .numbers), omega (arith, h, R .floats)), (omega (arith, h, s .pre .0 .paired), omega (arith, h, R .points)))
+    seams-fit (c .before .before .before .before .before .before .before .walk-marked .result) (s .args .edges) (s .args .pairs)
+    (c .before .before .seams-after .ensures) (R .numbers) (R .floats) (s .pre .0 .paired) (R .points)
 
 add-boundaries-of : tie.Need-add-boundaries-of
 add-boundaries-of c =
     let s = c .before .before .before .before .before .before .before .before .before .before .before .before .before .before .before .before .before .before .before .before .before .before .before .before in
-    let n = c .before .before .before .before .before .before .before .seams-after in
-    let h : n .result ≤ s .args .pairs = rw (n .ensures) (seams-le (c .before .before .before .before .before .before .before .before .before .before .before .before .walk-marked .result) (s .args .pairs)) in
-    omega (arith, h, s .pre .0 .below)
+    edges-fit (c .before .before .before .before .before .before .before .before .before .before .before .before .walk-marked .result)
+    (s .args .edges) (s .args .pairs) (c .before .before .before .before .before .before .before .seams-after .ensures)
+    (s .pre .0 .below)
 
 boundaries-of-requires : tie.Need-boundaries-of-requires
 boundaries-of-requires c κs = search needs
 
 same-length : tie.Need-same-length
-same-length c = search needs
+same-length c = c .before .before .before .before .before .create-new-edges .kept .0
 
 same-length-2 : tie.Need-same-length-2
-same-length-2 c = search needs
+same-length-2 c = c .before .before .before .before .before .create-new-edges .kept .1 .0
 
 same-length-3 : tie.Need-same-length-3
-same-length-3 c = search needs
+same-length-3 c = c .before .before .before .before .before .before .before .before .before .before .before .before .before .walk-marked .kept .1 .1 .1 .1 .1 .1 .0
 
 same-length-4 : tie.Need-same-length-4
-same-length-4 c = search needs
+same-length-4 c = c .before .before .before .before .before .before .before .before .before .before .before .before .before .walk-marked .kept .1 .1 .1 .1 .1 .1 .1 .0
 
 returns : tie.Need-returns
 returns c =

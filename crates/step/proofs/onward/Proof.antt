@@ -1,10 +1,11 @@
 -- `step::onward` meets its contract. Assumes nothing.
 use Prim.Native.Nat.{_-_}
-use mathlib.Core.Path.{refl, sym, _∙_}
-use lib.ListN.{getD}
+use mathlib.Core.Path.{refl}
 use native.Mathlib.Omega.{arith}
 use borrow.Author.Needs.{needs}
-use Rattle.step.specs.Arrival.{absent, empty, many, one, second, first}
+use Rattle.step.specs.Arrival.{absent, empty}
+use Rattle.step.proofs.Arriving.{last-place, link-some, link-place, in-table, twice-fits, four-fits, vertex-fits, entry-fits}
+use Rattle.step.proofs.Arriving.{only-one, too-many, goes-first, goes-second}
 use Rattle.step.proofs.onward.Statement.{statement}
 use Rattle.step.proofs.onward.Tie as tie
 
@@ -27,76 +28,138 @@ sub-p : tie.Need-sub-p
 sub-p c = search needs
 
 mul-m : tie.Need-mul-m
-mul-m c = omega (arith, c .before .before .before .before .before .before .pre .1 .1 .heads (c .before .before .before .before .before .before .args .v))
+mul-m c = twice-fits (last-place (c .before .before .wide .ensures) (c .before .if1 .left) (c .if2 .left)
+    (c .before .before .before .before .before .before .pre .1 .1 .heads (c .before .before .before .before .before .before .args .v)))
+    (c .before .before .before .before .before .before .pre .0 .1)
 
 element-copy-out-m : tie.Need-element-copy-out-m
-element-copy-out-m c = omega (arith, c .before .before .before .before .before .before .pre .1 .1 .heads (c .before .before .before .before .before .before .args .v))
+element-copy-out-m c = in-table
+    (last-place (c .before .before .wide .ensures) (c .before .if1 .left) (c .if2 .left)
+    (c .before .before .before .before .before .before .pre .1 .1 .heads (c .before .before .before .before .before .before .args .v)))
+    (c .before .before .before .before .before .before .pre .0 .1)
 
 mul-head : tie.Need-mul-head
-mul-head c = search needs
+mul-head c = vertex-fits (c .before .before .before .before .before .before .before .before .pre .0 .0)
 
 element-write-head : tie.Need-element-write-head
-element-write-head c = search needs
+element-write-head c = c .before .before .before .before .before .before .before .before .pre .0 .0
 
 mul-t19 : tie.Need-mul-t19
-mul-t19 c = omega (arith, c .before .before .before .before .before .before .before .before .pre .1 .1 .heads (c .before .before .before .before .before .before .before .before .args .v))
+mul-t19 c = four-fits (last-place (c .before .before .before .before .wide .ensures) (c .before .before .before .if1 .left)
+    (c .before .before .if2 .left)
+    (c .before .before .before .before .before .before .before .before .pre .1 .1 .heads
+    (c .before .before .before .before .before .before .before .before .args .v)))
+    (c .before .before .before .before .before .before .before .before .pre .0 .1)
 
 shared-slice-read-t23 : tie.Need-shared-slice-read-t23
-shared-slice-read-t23 c = omega (arith, c .before .before .before .before .before .before .before .before .before .pre .1 .1 .heads (c .before .before .before .before .before .before .before .before .before .args .v))
+shared-slice-read-t23 c = last-place (c .before .before .before .before .before .wide .ensures)
+    (c .before .before .before .before .if1 .left) (c .before .before .before .if2 .left)
+    (c .before .before .before .before .before .before .before .before .before .pre .1 .1 .heads
+    (c .before .before .before .before .before .before .before .before .before .args .v))
 
 returns-3 : tie.Need-returns-3
-returns-3 c = one (c .before .before .before .before .before .wide .result - 2) (omega arith) (c .before .if3 .taken) refl refl refl
+returns-3 c = only-one (c .before .before .before .before .before .wide .ensures) (c .before .before .before .before .if1 .left)
+    (c .before .before .before .if2 .left) (c .before .if3 .taken)
 
 wide-requires-2 : tie.Need-wide-requires-2
 wide-requires-2 c κs = search needs
 
 sub-a : tie.Need-sub-a
-sub-a c = search needs
+sub-a c = link-some (c .wide2 .ensures) (c .before .if3 .left)
 
 mul-if4 : tie.Need-mul-if4
-mul-if4 c = omega (arith, c .before .before .before .before .before .before .before .before .before .pre .1 .1 .nexts (c .before .before .before .before .before .wide .result - 2))
+mul-if4 c = twice-fits (link-place (c .wide2 .ensures) (c .before .if3 .left)
+    (c .before .before .before .before .before .before .before .before .before .pre .1 .1 .nexts
+    (c .before .before .before .before .before .wide .result - 2)))
+    (c .before .before .before .before .before .before .before .before .before .pre .0 .1)
 
 element-copy-out-if4 : tie.Need-element-copy-out-if4
-element-copy-out-if4 c = omega (arith, c .before .before .before .before .before .before .before .before .before .pre .1 .1 .nexts (c .before .before .before .before .before .wide .result - 2))
+element-copy-out-if4 c = in-table
+    (link-place (c .wide2 .ensures) (c .before .if3 .left)
+    (c .before .before .before .before .before .before .before .before .before .pre .1 .1 .nexts
+    (c .before .before .before .before .before .wide .result - 2)))
+    (c .before .before .before .before .before .before .before .before .before .pre .0 .1)
 
 returns-4 : tie.Need-returns-4
-returns-4 c = many (c .before .before .before .before .before .before .before .wide .result - 2) (c .before .before .wide2 .result - 1) (getD (c .before .before .before .before .before .before .before .before .before .before .before .args .next .now) (c .before .before .wide2 .result - 1) 0 - 1) (omega arith) (omega arith) (omega arith) refl refl refl
+returns-4 c = too-many (c .before .before .before .before .before .before .before .wide .ensures)
+    (c .before .before .before .before .before .before .if1 .left) (c .before .before .before .before .before .if2 .left)
+    (c .before .before .wide2 .ensures) (c .before .before .before .if3 .left) (c .if4 .taken)
 
 mul-first : tie.Need-mul-first
-mul-first c = omega (arith, c .before .before .before .before .before .before .before .before .before .before .before .pre .1 .1 .nexts (c .before .before .before .before .before .before .before .wide .result - 2))
+mul-first c = four-fits (link-place (c .before .before .wide2 .ensures) (c .before .before .before .if3 .left)
+    (c .before .before .before .before .before .before .before .before .before .before .before .pre .1 .1 .nexts
+    (c .before .before .before .before .before .before .before .wide .result - 2)))
+    (c .before .before .before .before .before .before .before .before .before .before .before .pre .0 .1)
 
 shared-slice-read-first : tie.Need-shared-slice-read-first
-shared-slice-read-first c = omega (arith, c .before .before .before .before .before .before .before .before .before .before .before .before .pre .1 .1 .nexts (c .before .before .before .before .before .before .before .before .wide .result - 2))
+shared-slice-read-first c = link-place (c .before .before .before .wide2 .ensures) (c .before .before .before .before .if3 .left)
+    (c .before .before .before .before .before .before .before .before .before .before .before .before .pre .1 .1 .nexts
+    (c .before .before .before .before .before .before .before .before .wide .result - 2))
 
 takes-first-requires : tie.Need-takes-first-requires
-takes-first-requires c κs = (omega arith, c .before .before .before .before .before .before .before .before .before .before .before .before .pre .1 .0 (c .before .before .before .wide2 .result - 1) (omega (arith, c .before .before .before .before .before .before .before .before .before .before .before .before .pre .1 .1 .nexts (c .before .before .before .before .before .before .before .before .wide .result - 2))))
+takes-first-requires c κs = (
+  c .before .before .before .before .before .before .before .before .before .before .before .before .pre .0 .2,
+  c .before .before .before .before .before .before .before .before .before .before .before .before .pre .1 .0
+      (c .before .before .before .wide2 .result - 1)
+      (link-place (c .before .before .before .wide2 .ensures) (c .before .before .before .before .if3 .left)
+      (c .before .before .before .before .before .before .before .before .before .before .before .before .pre .1 .1 .nexts
+      (c .before .before .before .before .before .before .before .before .wide .result - 2))),
+)
 
 mul-next : tie.Need-mul-next
-mul-next c = omega (arith, c .before .before .before .before .before .before .before .before .before .before .before .before .before .before .pre .1 .1 .heads (c .before .before .before .before .before .before .before .before .before .before .before .before .before .before .args .v))
+mul-next c = twice-fits (last-place (c .before .before .before .before .before .before .before .before .before .before .wide .ensures)
+    (c .before .before .before .before .before .before .before .before .before .if1 .left)
+    (c .before .before .before .before .before .before .before .before .if2 .left)
+    (c .before .before .before .before .before .before .before .before .before .before .before .before .before .before .pre .1 .1 .heads (c .before .before .before .before .before .before .before .before .before .before .before .before .before .before .args .v)))
+    (c .before .before .before .before .before .before .before .before .before .before .before .before .before .before .pre .0 .1)
 
 element-write-next : tie.Need-element-write-next
-element-write-next c = omega (arith, c .before .before .before .before .before .before .before .before .before .before .before .before .before .before .pre .1 .1 .heads (c .before .before .before .before .before .before .before .before .before .before .before .before .before .before .args .v))
+element-write-next c = in-table
+    (last-place (c .before .before .before .before .before .before .before .before .before .before .wide .ensures)
+    (c .before .before .before .before .before .before .before .before .before .if1 .left)
+    (c .before .before .before .before .before .before .before .before .if2 .left)
+    (c .before .before .before .before .before .before .before .before .before .before .before .before .before .before .pre .1 .1 .heads (c .before .before .before .before .before .before .before .before .before .before .before .before .before .before .args .v)))
+    (c .before .before .before .before .before .before .before .before .before .before .before .before .before .before .pre .0 .1)
 
 returns-5 : tie.Need-returns-5
-returns-5 c = first (c .before .before .before .before .before .before .before .before .before .before .wide .result - 2) (c .before .before .before .before .before .wide2 .result - 1) (omega arith) (omega arith) (c .before .before .before .if4 .left) (sym (c .before .takes-first .ensures) ∙ c .if5 .taken) refl refl refl
+returns-5 c = goes-first (c .before .before .before .before .before .before .before .before .before .before .wide .ensures)
+    (c .before .before .before .before .before .before .before .before .before .if1 .left)
+    (c .before .before .before .before .before .before .before .before .if2 .left)
+    (c .before .before .before .before .before .wide2 .ensures) (c .before .before .before .before .before .before .if3 .left)
+    (c .before .before .before .if4 .left) (c .before .takes-first .ensures) (c .if5 .taken)
 
 add-head : tie.Need-add-head
-add-head c = omega (arith, c .before .before .before .before .before .before .before .before .before .before .before .before .before .before .pre .1 .1 .nexts (c .before .before .before .before .before .before .before .before .before .before .wide .result - 2))
+add-head c = entry-fits (c .before .before .before .before .before .before .before .before .before .before .before .before .before .before .pre .1 .1 .nexts (c .before .before .before .before .before .before .before .before .before .before .wide .result - 2))
+    (c .before .before .before .before .before .before .before .before .before .before .before .before .before .before .pre .0 .1)
 
 mul-head-2 : tie.Need-mul-head-2
-mul-head-2 c = search needs
+mul-head-2 c = vertex-fits (c .before .before .before .before .before .before .before .before .before .before .before .before .before .before .pre .0 .0)
 
 element-write-head-2 : tie.Need-element-write-head-2
-element-write-head-2 c = search needs
+element-write-head-2 c = c .before .before .before .before .before .before .before .before .before .before .before .before .before .before .pre .0 .0
 
 mul-t12 : tie.Need-mul-t12
-mul-t12 c = omega (arith, c .before .before .before .before .before .before .before .before .before .before .before .before .before .before .pre .1 .1 .heads (c .before .before .before .before .before .before .before .before .before .before .before .before .before .before .args .v))
+mul-t12 c = four-fits (last-place (c .before .before .before .before .before .before .before .before .before .before .wide .ensures)
+    (c .before .before .before .before .before .before .before .before .before .if1 .left)
+    (c .before .before .before .before .before .before .before .before .if2 .left)
+    (c .before .before .before .before .before .before .before .before .before .before .before .before .before .before .pre .1 .1 .heads (c .before .before .before .before .before .before .before .before .before .before .before .before .before .before .args .v)))
+    (c .before .before .before .before .before .before .before .before .before .before .before .before .before .before .pre .0 .1)
 
 shared-slice-read-t27 : tie.Need-shared-slice-read-t27
-shared-slice-read-t27 c = omega (arith, c .before .before .before .before .before .before .before .before .before .before .before .before .before .before .before .pre .1 .1 .heads (c .before .before .before .before .before .before .before .before .before .before .before .before .before .before .before .args .v))
+shared-slice-read-t27 c = last-place
+    (c .before .before .before .before .before .before .before .before .before .before .before .wide .ensures)
+    (c .before .before .before .before .before .before .before .before .before .before .if1 .left)
+    (c .before .before .before .before .before .before .before .before .before .if2 .left)
+    (c .before .before .before .before .before .before .before .before .before .before .before .before .before .before .before .pre .1 .1 .heads
+    (c .before .before .before .before .before .before .before .before .before .before .before .before .before .before .before .args .v))
 
 returns-6 : tie.Need-returns-6
-returns-6 c = second (c .before .before .before .before .before .before .before .before .before .before .before .wide .result - 2) (c .before .before .before .before .before .before .wide2 .result - 1) (omega arith) (omega arith) (c .before .before .before .before .if4 .left) (sym (c .before .before .takes-first .ensures) ∙ c .before .if5 .left) refl refl refl
+returns-6 c = goes-second (c .before .before .before .before .before .before .before .before .before .before .before .wide .ensures)
+    (c .before .before .before .before .before .before .before .before .before .before .if1 .left)
+    (c .before .before .before .before .before .before .before .before .before .if2 .left)
+    (c .before .before .before .before .before .before .wide2 .ensures)
+    (c .before .before .before .before .before .before .before .if3 .left) (c .before .before .before .before .if4 .left)
+    (c .before .before .takes-first .ensures) (c .before .if5 .left)
 
 pub onward-spec : {M : Type 1} → statement M
 onward-spec =

@@ -2,14 +2,13 @@
 -- The inner loop's invariant speaks of the wire with the use `last`, which the loop stores first.
 use Prim.Native.Nat.{_+_, _-_}
 use mathlib.Core.Logic.{⊎-elim}
-use mathlib.Core.Path.{_≡_, refl, sym, _∙_}
+use mathlib.Core.Path.{_≡_, refl}
 use lib.ListN.{length, set}
 use native.Mathlib.Omega.{arith}
 use borrow.Author.Needs.{needs}
 use Rattle.lists.specs.Ends.{frontOf, backOf, markedOf}
-use Rattle.lists.proofs.Chains.{lists-all}
-use Rattle.walk.proofs.Small.{zeros, front-small, back-small, edge-there, mark-there}
-use Rattle.walk.proofs.Walks.{Between, Along, between-start, between-some, between-begin, between-done, along-on, along-stop, along-close}
+use Rattle.walk.proofs.Small.{front-small, back-small, edge-there, mark-there}
+use Rattle.walk.proofs.Walks.{Between, Along, between-some, walk-begins, wire-begins, wire-goes, wire-closes, walk-stops, walk-ends}
 use Rattle.walk.proofs.construct_boundaries.Statement.{statement}
 use Rattle.walk.proofs.construct_boundaries.Tie as tie
 
@@ -33,7 +32,7 @@ create-vemap-requires c κs =
 walk-holds : tie.Need-walk-holds Inv-loop μ-loop Inv-walk μ-walk
 walk-holds c =
     let p = c .before .before .before .before .before .before .before .pre in
-    (between-start (rw (c .create-vemap .ensures .0, c .create-vemap .ensures .1) (lists-all _ _ _ _ refl refl (zeros 4096) (zeros 1024) (p .0 .few) (front-small (p .0)))) (p .1 .0) (p .1 .1), refl)
+    (walk-begins (p .0) (p .1 .0) (p .1 .1) (c .create-vemap .ensures .0) (c .create-vemap .ensures .1), refl)
 
 lowest-requires : tie.Need-lowest-requires Inv-loop μ-loop Inv-walk μ-walk
 lowest-requires c κs = (c .before .before .walk .inv .0 .start-le, c .before .before .walk .inv .0 .low)
@@ -46,7 +45,13 @@ pop-requires c κs =
     ((small, c .before .before .before .before .before .before .before .before .before .before .before .before .before .pre .0 .few, low .has small), b .lists .tables)
 
 loop-holds : tie.Need-loop-holds Inv-loop μ-loop Inv-walk μ-walk
-loop-holds c = (between-begin (c .before .before .before .before .before .before .walk .inv .0) (c .before .before .before .before .before .walk-test .taken) (c .before .before .before .before .before .before .before .before .before .before .before .before .before .before .pre .0 .few) (c .before .before .before .lowest .ensures) (c .pop .ensures .0) (c .pop .ensures .1) refl, c .before .before .before .before .before .before .walk .inv .1)
+loop-holds c =
+    let w = c .before .before .before .before .before .before .walk in (
+      wire-begins (c .before .before .before .before .before .before .before .before .before .before .before .before .before .before .pre .0)
+          (w .inv .0) (c .before .before .before .before .before .walk-test .taken) (c .before .before .before .lowest .ensures)
+          (c .pop .ensures .0) (c .pop .ensures .1),
+      w .inv .1,
+    )
 
 mul-made : tie.Need-mul-made Inv-loop μ-loop Inv-walk μ-walk
 mul-made c = omega (arith, c .loop .inv .0 .count-is, c .before .before .before .before .before .before .before .before .before .before .before .before .before .before .before .pre .0 .few)
@@ -79,12 +84,14 @@ loop-less : tie.Need-loop-less Inv-loop μ-loop Inv-walk μ-walk
 loop-less c = omega (arith, c .before .before .before .before .before .before .before .before .loop .inv .0 .count-is)
 
 loop-again : tie.Need-loop-again Inv-loop μ-loop Inv-walk μ-walk
-loop-again c =
-    let l = c .before .before .before .before .before .before .before .before .loop in
-    let a = l .inv .0 in
-    let s = c .before .before .before .before .before .before .before .before .before .before .before .before .before .before .before .before .before .before .before .before .before .before .before .pre .0 in
-    let e = c .before .before .before .before .before .before .before .back .ensures in
-    (along-on a (s .few) (back-small s (a .place) (l .last) (a .place-lt) (a .last-at)) e (c .before .before .before .before .before .before .if1 .left) (c .before .before .before .onward .ensures) (c .before .before .step-cause .ensures) (c .before .if2 .left) (c .step-use .ensures) refl, c .before .if2 .left)
+loop-again c = (
+  wire-goes (c .before .before .before .before .before .before .before .before .before .before .before .before .before .before .before .before .before .before .before .before .before .before .before .pre .0)
+      (c .before .before .before .before .before .before .before .before .loop .inv .0)
+      (c .before .before .before .before .before .before .before .back .ensures)
+      (c .before .before .before .before .before .before .if1 .left) (c .before .before .before .onward .ensures)
+      (c .before .before .step-cause .ensures) (c .before .if2 .left) (c .step-use .ensures),
+  c .before .if2 .left,
+)
 
 sub-sizes : tie.Need-sub-sizes Inv-loop μ-loop Inv-walk μ-walk
 sub-sizes c = omega (arith, c .before .before .loop .inv .0 .from-lt)
@@ -105,20 +112,23 @@ walk-less : tie.Need-walk-less Inv-loop μ-loop Inv-walk μ-walk
 walk-less c = omega (arith, c .before .before .loop .inv .0 .few, c .before .before .loop .inv .0 .from-lt, c .before .before .loop .inv .0 .count-is, c .before .before .before .before .before .before .before .before .before .before .before .before .before .before .before .before .before .pre .0 .few)
 
 walk-again : tie.Need-walk-again Inv-loop μ-loop Inv-walk μ-walk
-walk-again c = (along-close (c .before .before .loop .inv .0) (c .before .before .before .before .before .before .before .before .before .before .before .before .before .before .before .before .before .pre .0 .few) (sym (c .before .back .ensures) ∙ c .if1 .taken) refl, c .before .before .loop .inv .1)
+walk-again c = (
+  wire-closes (c .before .before .before .before .before .before .before .before .before .before .before .before .before .before .before .before .before .pre .0)
+      (c .before .before .loop .inv .0) (c .before .back .ensures) (c .if1 .taken),
+  c .before .before .loop .inv .1,
+)
 
 answer-requires : tie.Need-answer-requires Inv-loop μ-loop Inv-walk μ-walk
 answer-requires c κs = search needs
 
 returns : tie.Need-returns Inv-loop μ-loop Inv-walk μ-walk
 returns c =
+    let s = c .before .before .before .before .before .before .before .before .before .before .pre .0 in
     let i = c .before .before .walk .inv in
     ⊎-elim
-    (λ w.
-    (rw (w .1) (between-done (i .0) (c .before .before .before .before .before .before .before .before .before .before .pre .0 .few) (w .0 .left) (rw (w .2, i .1, w .4) at (c .answer .ensures))), (rw (w .1) (i .0 .long-made), i .0 .long-sizes)))
-    (λ w.
-    let e = w .7 .ensures in
-    (along-stop (w .6 .inv .0) _ _ _ _ e (w .8 .left) (w .11 .ensures) (w .12 .ensures) (w .13 .taken) (w .15) (c .answer .ensures), (rw (w .14) (w .6 .inv .0 .long-made), i .0 .long-sizes)))
+    (λ w. walk-ends s (i .0) (i .1) (w .0 .left) (w .1) (w .2) (w .4) (c .answer .ensures))
+    (λ w. walk-stops s (w .6 .inv .0) (w .7 .ensures) (c .before .before .walk .wires) (c .before .walk-test .taken) (w .8 .left)
+    (w .11 .ensures) (w .12 .ensures) (w .13 .taken) (w .14) (w .15) (c .answer .ensures))
     (c .before .walk-test .came)
 
 pub construct-boundaries-spec : {M : Type 1} → statement M

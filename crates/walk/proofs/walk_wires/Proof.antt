@@ -1,13 +1,12 @@
 -- `walk::walk_wires` meets its contract. Assumes nothing.
-use mathlib.Core.Path.{sym}
-use native.Mathlib.Omega.{arith}
+use mathlib.Core.Path.{refl, sym}
 use borrow.Author.Needs.{needs}
-use Rattle.walk.proofs.Storing.{traced-few, left}
+use Rattle.walk.proofs.Storing.{wires-fit, lengths-fit, copies-left}
 use Rattle.walk.proofs.walk_wires.Statement.{statement}
 use Rattle.walk.proofs.walk_wires.Tie as tie
 
 construct-boundaries-requires : tie.Need-construct-boundaries-requires
-construct-boundaries-requires c κs = search needs
+construct-boundaries-requires c κs = (c .before .before .before .before .before .before .before .before .pre .0, (refl, refl))
 
 made-by-requires : tie.Need-made-by-requires
 made-by-requires c κs = search needs
@@ -22,8 +21,7 @@ copy-wires-requires : tie.Need-copy-wires-requires
 copy-wires-requires c κs =
     let w = c .before .before .before .before .construct-boundaries in
     let p = c .before .before .before .before .before .before .before .before .before .before .before .before .before .pre in
-    let d = traced-few _ _ _ _ (w .result) (w .ensures .0) in
-    rw (c .before .before .before .made-by .ensures) (omega (arith, d, w .ensures .1, p .0 .few), omega (arith, d, w .ensures .1, p .0 .few), omega (arith, d, p .1))
+    wires-fit (p .0) _ _ (w .result) (w .ensures .0) (c .before .before .before .made-by .ensures) _ (w .ensures .1) (p .1 .0)
 
 slice-aggregate-copy : tie.Need-slice-aggregate-copy
 slice-aggregate-copy c = sym (c .before .before .before .before .before .before .before .before .construct-boundaries .ensures .1 .1)
@@ -32,20 +30,21 @@ copy-requires : tie.Need-copy-requires
 copy-requires c κs =
     let w = c .before .before .before .before .before .before .before .before .before .construct-boundaries in
     let p = c .before .before .before .before .before .before .before .before .before .before .before .before .before .before .before .before .before .before .pre in
-    let d = traced-few _ _ _ _ (w .result) (w .ensures .0) in
-    rw (c .before .before .before .before .before .before .before .before .made-by .ensures) (omega (arith, d, w .ensures .1, p .0 .few), omega (arith, d, p .1))
+    lengths-fit (p .0) _ _ (w .result) (w .ensures .0)
+    (c .before .before .before .before .before .before .before .before .made-by .ensures) _ (w .ensures .1 .1) (p .1 .1)
 
 same-length : tie.Need-same-length
-same-length c = search needs
+same-length c = c .before .before .before .before .before .before .before .copy-wires .kept .1 .1 .1 .0
 
 same-length-2 : tie.Need-same-length-2
-same-length-2 c = search needs
+same-length-2 c = c .before .before .copy .kept .1 .1 .0
 
 returns : tie.Need-returns
 returns c =
     let w = c .before .before .before .before .before .before .before .before .before .before .before .before .construct-boundaries in
-    let n = c .before .before .before .before .before .before .before .before .before .before .before .made-by .ensures in
-    left _ _ _ _ _ _ _ _ (w .result) (w .ensures .0) (c .before .before .before .before .before .before .before .before .before .before .before .before .before .before .before .before .before .before .before .before .before .pre .0 .few) (rw n at (c .before .before .before .before .before .before .before .copy-wires .ensures)) (rw n at (c .before .before .copy .ensures))
+    copies-left (c .before .before .before .before .before .before .before .before .before .before .before .before .before .before .before .before .before .before .before .before .before .pre .0) _ _
+    (w .result) (w .ensures .0) (c .before .before .before .before .before .before .before .before .before .before .before .made-by .ensures) _ _
+    (c .before .before .before .before .before .before .before .copy-wires .ensures) (c .before .before .copy .ensures)
 
 pub walk-wires-spec : {M : Type 1} → statement M
 walk-wires-spec =

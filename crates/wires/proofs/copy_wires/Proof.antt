@@ -1,9 +1,9 @@
 -- `wires::copy_wires` meets its contract. Assumes nothing.
 use mathlib.Core.Path.{refl}
 use Prim.Native.Nat.{_-_}
-use lib.ListN.{length-take, length-drop}
 use native.Mathlib.Omega.{arith}
-use Rattle.wires.proofs.Copying.{Copied, copied-start, copied-turn, copied-done, total-room}
+use Rattle.wires.proofs.Copying.{Copied, copied-start, copied-turn, copied-done, next-lies, next-fits, count-fits, place-fits}
+use Rattle.wires.proofs.Copying.{less-left}
 use Rattle.wires.proofs.copy_wires.Statement.{statement}
 use Rattle.wires.proofs.copy_wires.Tie as tie
 
@@ -50,21 +50,21 @@ part-copy-end-2 : tie.Need-part-copy-end-2 Inv-loop μ-loop
 part-copy-end-2 c = omega (arith, c .before .before .before .loop .inv .at-le, c .before .before .before .loop .inv .same)
 
 copy-requires : tie.Need-copy-requires Inv-loop μ-loop
-copy-requires c κs =
-    let l = c .before .before .before .before .loop in
-    let room = total-room (c .before .before .before .before .before .before .before .before .args .sizes .now) (l .k) (c .before .before .before .before .before .before .before .before .args .n) (omega arith) (omega arith) in
-    simp (length-take, length-drop) (omega (arith, room, l .inv .at-is), omega (arith, room, l .inv .at-is, l .inv .same))
+copy-requires c κs = next-fits (c .before .before .before .before .loop .inv) (c .before .before .before .loop-test .taken)
+    (c .before .before .before .before .before .before .before .before .pre)
 
 add-at : tie.Need-add-at Inv-loop μ-loop
 add-at c =
-    let l = c .before .before .before .before .before .before .before .loop in
-    omega (arith, l .inv .at-is, total-room (c .before .before .before .before .before .before .before .before .before .before .before .args .sizes .now) (l .k) (c .before .before .before .before .before .before .before .before .before .before .before .args .n) (omega arith) (omega arith))
+    let s = c .before .before .before .before .before .before .before .before .before .before .before in
+    place-fits (next-lies (c .before .before .before .before .before .before .before .loop .inv)
+    (c .before .before .before .before .before .before .loop-test .taken) (s .pre .0) (s .pre .1)) (s .good .0 .1)
 
 add-k : tie.Need-add-k Inv-loop μ-loop
-add-k c = omega arith
+add-k c = count-fits (c .before .before .before .before .before .before .loop-test .taken)
+    (c .before .before .before .before .before .before .before .before .before .before .before .fits .n)
 
 loop-less : tie.Need-loop-less Inv-loop μ-loop
-loop-less c = omega arith
+loop-less c = less-left (c .before .before .before .before .before .before .loop-test .taken)
 
 loop-again : tie.Need-loop-again Inv-loop μ-loop
 loop-again c =
