@@ -19,10 +19,7 @@ fn joined(out: i32, cut: Shell) -> Shell {
     if !seamed.is_whole {
         return seamed;
     }
-    writing::write_shell(out, seamed, cut.edges.count);
-    let joined = pipe_join::join_rims(out, cut.wires, seamed, d);
-    writing::write_wires(out, joined.wires);
-    joined
+    pipe_join::join_rims(out, cut.wires, seamed, d)
 }
 
 // The wire divided along the vertices that the search finds.
@@ -31,9 +28,7 @@ fn divided(out: i32, joined: Shell) -> Shell {
     if !d.is_found {
         return pipe_shell::stopped(joined);
     }
-    let divided = pipe_seam::split_again(out, joined, d);
-    writing::write_shell(out, divided, joined.edges.count);
-    divided
+    pipe_seam::split_again(out, joined, d)
 }
 
 fn main() {
@@ -54,7 +49,6 @@ fn main() {
     if !cut.is_whole {
         return;
     }
-    writing::write_shell(out, cut, 0);
     let one = joined(out, cut);
     if !one.is_whole {
         return;

@@ -1,4 +1,4 @@
-// The join of the two rims with the seam. What the call answers is written, and the shell comes back as the step leaves it.
+// The join of the two rims with the seam. What the call answers is written, with the wires, and the shell comes back.
 ghost use mathlib.Core.Path.{_≡_};
 use joined::Join;
 use pipe_ends::Divisor;
@@ -13,6 +13,7 @@ fn after_join(out: i32, answer: Join, s: Shell) -> Shell
     match answer {
         Join::Joined(_) => {
             notation::text(out, b" the rims and the seam are one wire\n");
+            writing::write_wires(out, s.wires);
             s
         }
         Join::NoJoin => {

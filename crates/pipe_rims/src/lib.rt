@@ -1,5 +1,5 @@
-// The first step of the healing, the closed-edge pass: the rims are cut. What the call answers is written, and the shell comes back as the
-// step leaves it.
+// The first step of the healing, the closed-edge pass: the rims are cut. What the call answers is written, with the shell as the step leaves
+// it, which comes back.
 ghost use mathlib.Core.Path.{_≡_};
 use cutting::Split;
 use pipe_shell::Shell;
@@ -21,7 +21,9 @@ fn after_pass(out: i32, answer: Split, s: Shell) -> Shell
         } => {
             notation::text(out, b" the rims are cut, the new vertices evaluated\n");
             let table = pipe_shell::counted(s.edges, edges);
-            pipe_shell::shell_of(pipe_shell::given(vertices), table, s.wires)
+            let left = pipe_shell::shell_of(pipe_shell::given(vertices), table, s.wires);
+            writing::write_shell(out, left, 0);
+            left
         }
     }
 }

@@ -1,5 +1,5 @@
-// The two splits of the healing: with the seam between the rims, and along the vertices of the search. What the call answers is written, and
-// the shell comes back as the step leaves it.
+// The two splits of the healing: with the seam between the rims, and along the vertices of the search. What the call answers is written, with
+// the new edges and the wires, and the shell comes back.
 ghost use mathlib.Core.Path.{_≡_};
 use periodic::NearestCopy;
 use periodic::Period;
@@ -35,7 +35,9 @@ fn after_split(out: i32, answer: Boundaries, s: Shell) -> Shell
             notation::text(out, b" a seam, and the wires along it\n");
             let table = pipe_shell::counted(s.edges, edges);
             let built = pipe_shell::wires_counted(s.wires, wires);
-            pipe_shell::shell_of(s.vertices, table, built)
+            let left = pipe_shell::shell_of(s.vertices, table, built);
+            writing::write_shell(out, left, s.edges.count);
+            left
         }
     }
 }

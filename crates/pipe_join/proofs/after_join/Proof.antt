@@ -14,6 +14,9 @@ slice-aggregate-text c = search needs
 text-requires : tie.Need-text-requires
 text-requires c κs = search needs
 
+write-wires-requires : tie.Need-write-wires-requires
+write-wires-requires c κs = tt
+
 enum-told-2 : tie.Need-enum-told-2
 enum-told-2 c = search needs
 
@@ -51,6 +54,7 @@ after-join-spec =
     enum-told
     slice-aggregate-text
     text-requires
+    write-wires-requires
     enum-told-2
     slice-aggregate-text-2
     text-requires-2

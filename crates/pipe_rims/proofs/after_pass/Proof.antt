@@ -32,11 +32,14 @@ given-requires c κs = search needs
 shell-of-requires : tie.Need-shell-of-requires
 shell-of-requires c κs = search needs
 
+write-shell-requires : tie.Need-write-shell-requires
+write-shell-requires c κs = tt
+
 returns : tie.Need-returns
 returns c = ap (λ (q : Shell). q .wires) (c .stopped .ensures)
 
 returns-2 : tie.Need-returns-2
-returns-2 c = ap (λ (q : Shell). q .wires) (c .shell-of .ensures)
+returns-2 c = ap (λ (q : Shell). q .wires) (c .before .shell-of .ensures)
 
 pub after-pass-spec : {M : Type 1} → statement M
 after-pass-spec =
@@ -51,5 +54,6 @@ after-pass-spec =
     counted-requires
     given-requires
     shell-of-requires
+    write-shell-requires
     returns
     returns-2)

@@ -32,11 +32,14 @@ wires-counted-requires c κs = search needs
 shell-of-requires : tie.Need-shell-of-requires
 shell-of-requires c κs = search needs
 
+write-shell-requires : tie.Need-write-shell-requires
+write-shell-requires c κs = tt
+
 returns : tie.Need-returns
 returns c = ap (λ (q : Shell). q .vertices) (c .stopped .ensures)
 
 returns-2 : tie.Need-returns-2
-returns-2 c = ap (λ (q : Shell). q .vertices) (c .shell-of .ensures)
+returns-2 c = ap (λ (q : Shell). q .vertices) (c .before .shell-of .ensures)
 
 pub after-split-spec : {M : Type 1} → statement M
 after-split-spec =
@@ -51,5 +54,6 @@ after-split-spec =
     counted-requires
     wires-counted-requires
     shell-of-requires
+    write-shell-requires
     returns
     returns-2)
