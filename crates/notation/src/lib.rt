@@ -3,7 +3,6 @@ ghost use mathlib.Core.Path.{_≡_};
 ghost use mathlib.Core.Logic.{_⊎_};
 ghost use Prim.Native.Nat.{_+_, _≤_, _<_};
 ghost use lib.Dec.{eqb};
-ghost use lib.Ieee.{nan};
 ghost use lib.ListN.{length, getD, take};
 ghost use Rattle.compress.specs.Records.{pick};
 ghost use Rattle.lists.specs.Members.{count};
@@ -28,13 +27,6 @@ pub fn length_at(lengths: &[u32], k: usize) -> usize
     size(at(lengths, k))
 }
 
-// The float at i, or 0 past the end.
-pub fn float_at(s: &[f64], i: usize) -> f64
-    ensures { λ r. ⌜ (i < length (now (s .entry)) → r ≡ getD (now (s .entry)) i nan) ⌝ }
-{
-    if i < s.len() { s[i] } else { 0.0 }
-}
-
 pub fn text(out: i32, s: &[u8]) {
     io::write_all(out, s);
 }
@@ -51,19 +43,6 @@ pub fn number(out: i32, n: u32) {
 pub fn numbered(out: i32, s: &[u8], n: u32) {
     text(out, s);
     number(out, n);
-}
-
-// How many of 0.5, 1.5, 2.5 and so on are below x, at most 9,999: x to the nearest whole number, 0 for a negative one.
-pub fn rounded(x: f64) -> u32
-    ensures { λ r. ⌜ r ≤ 9999 ⌝ }
-{
-    let mut n: u32 = 0;
-    let mut half = 0.5f64;
-    while n < 9999 && half < x {
-        half += 1.0;
-        n += 1;
-    }
-    n
 }
 
 // A use: the edge number, and + or -.

@@ -10,9 +10,9 @@ use compress::Uv;
 // Once round the pipe.
 pub const TURN: f64 = 6.283185307179586;
 
-pub const HALF_TURN: f64 = 3.141592653589793;
+const HALF_TURN: f64 = 3.141592653589793;
 
-pub const HEIGHT: f64 = 4.0;
+const HEIGHT: f64 = 4.0;
 
 // The vertices, with room for those of the cut rims.
 pub struct Vertices {
