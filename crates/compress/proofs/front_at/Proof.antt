@@ -11,7 +11,7 @@ edge-at-requires : tie.Need-edge-at-requires
 edge-at-requires c κs = search needs
 
 front-requires : tie.Need-front-requires
-front-requires c κs = search needs
+front-requires c κs = tt
 
 returns : tie.Need-returns
 unfolding frontAt
