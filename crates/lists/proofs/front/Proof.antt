@@ -1,17 +1,16 @@
 -- `lists::front` meets its contract. Assumes nothing.
 use native.Mathlib.Omega.{arith}
-use borrow.Author.Needs.{needs}
 use Rattle.lists.proofs.front.Statement.{statement}
 use Rattle.lists.proofs.front.Tie as tie
 
 index-requires : tie.Need-index-requires
-index-requires c κs = search needs
+index-requires c κs = tt
 
 end-of-requires : tie.Need-end-of-requires
 end-of-requires c κs = (rw (c .index .ensures) (c .before .before .before .pre), omega arith)
 
 index-requires-2 : tie.Need-index-requires-2
-index-requires-2 c κs = search needs
+index-requires-2 c κs = tt
 
 returns : tie.Need-returns
 returns c = rw (c .index2 .ensures, c .before .end-of .ensures, c .before .before .index .ensures)

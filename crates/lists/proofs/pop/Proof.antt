@@ -13,7 +13,7 @@ element-copy-out-wide : tie.Need-element-copy-out-wide
 element-copy-out-wide c = search needs
 
 wide-requires : tie.Need-wide-requires
-wide-requires c κs = search needs
+wide-requires c κs = tt
 
 sub-p : tie.Need-sub-p
 sub-p c = search needs

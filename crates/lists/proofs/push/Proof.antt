@@ -11,7 +11,7 @@ element-copy-out-chain : tie.Need-element-copy-out-chain
 element-copy-out-chain c = search needs
 
 chain-requires : tie.Need-chain-requires
-chain-requires c κs = search needs
+chain-requires c κs = tt
 
 mul-next : tie.Need-mul-next
 mul-next c = search needs
