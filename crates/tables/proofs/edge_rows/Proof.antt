@@ -20,7 +20,7 @@ edge-row-requires : tie.Need-edge-row-requires Inv-loop μ-loop
 edge-row-requires c κs = omega arith
 
 lower-requires : tie.Need-lower-requires Inv-loop μ-loop
-lower-requires c κs = omega arith
+lower-requires c κs = tt
 
 add-i : tie.Need-add-i Inv-loop μ-loop
 add-i c = omega arith

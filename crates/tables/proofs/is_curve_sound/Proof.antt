@@ -26,7 +26,7 @@ shared-slice-read-is-range-sound-2 : tie.Need-shared-slice-read-is-range-sound-2
 shared-slice-read-is-range-sound-2 c = search needs
 
 is-range-sound-requires : tie.Need-is-range-sound-requires
-is-range-sound-requires c κs = search needs
+is-range-sound-requires c κs = tt
 
 returns : tie.Need-returns
 returns c = λ e. no e
@@ -53,7 +53,7 @@ shared-slice-read-is-uv-sound-2 : tie.Need-shared-slice-read-is-uv-sound-2
 shared-slice-read-is-uv-sound-2 c = search needs
 
 is-uv-sound-requires : tie.Need-is-uv-sound-requires
-is-uv-sound-requires c κs = search needs
+is-uv-sound-requires c κs = tt
 
 add-is-uv-sound-2 : tie.Need-add-is-uv-sound-2
 add-is-uv-sound-2 c = search needs
@@ -74,7 +74,7 @@ shared-slice-read-is-uv-sound-4 : tie.Need-shared-slice-read-is-uv-sound-4
 shared-slice-read-is-uv-sound-4 c = search needs
 
 is-uv-sound-requires-2 : tie.Need-is-uv-sound-requires-2
-is-uv-sound-requires-2 c κs = search needs
+is-uv-sound-requires-2 c κs = tt
 
 returns-4 : tie.Need-returns-4
 returns-4 c = λ e.

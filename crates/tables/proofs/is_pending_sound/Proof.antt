@@ -39,7 +39,7 @@ shared-slice-read-is-parameter-sound-3 : tie.Need-shared-slice-read-is-parameter
 shared-slice-read-is-parameter-sound-3 c = search needs
 
 is-parameter-sound-requires : tie.Need-is-parameter-sound-requires
-is-parameter-sound-requires c κs = search needs
+is-parameter-sound-requires c κs = tt
 
 returns-2 : tie.Need-returns-2
 returns-2 c = λ e. let a = c .before .before .before .before .before .before .before .args in let s = c .before .before .before .before .before .is-curve-sound .ensures (not-false _ (c .before .before .before .before .if1 .left)) in (s .0, λ n. vertex-sound (a .kind) n (a .floats .now) (a .b) _ (s .1 n) (c .is-parameter-sound .ensures e))

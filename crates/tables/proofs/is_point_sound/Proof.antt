@@ -1,17 +1,16 @@
 use Rattle.tables.proofs.Told.{point-test}
 -- `tables::is_point_sound` meets its contract. Assumes nothing.
-use borrow.Author.Needs.{needs}
 use Rattle.tables.proofs.is_point_sound.Statement.{statement}
 use Rattle.tables.proofs.is_point_sound.Tie as tie
 
 is-sized-requires : tie.Need-is-sized-requires
-is-sized-requires c κs = search needs
+is-sized-requires c κs = tt
 
 is-sized-requires-2 : tie.Need-is-sized-requires-2
-is-sized-requires-2 c κs = search needs
+is-sized-requires-2 c κs = tt
 
 is-sized-requires-3 : tie.Need-is-sized-requires-3
-is-sized-requires-3 c κs = search needs
+is-sized-requires-3 c κs = tt
 
 returns : tie.Need-returns
 returns c = rw (c .before .before .is-sized .ensures, c .before .is-sized2 .ensures, c .is-sized3 .ensures) (point-test _ _ _)

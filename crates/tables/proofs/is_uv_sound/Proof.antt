@@ -1,15 +1,14 @@
 -- `tables::is_uv_sound` meets its contract. Assumes nothing.
 use mathlib.Core.Path.{sym, _∙_}
-use borrow.Author.Needs.{needs}
 use Rattle.checks.proofs.Sound.{both, uv-sound}
 use Rattle.tables.proofs.is_uv_sound.Statement.{statement}
 use Rattle.tables.proofs.is_uv_sound.Tie as tie
 
 is-sized-requires : tie.Need-is-sized-requires
-is-sized-requires c κs = search needs
+is-sized-requires c κs = tt
 
 is-sized-requires-2 : tie.Need-is-sized-requires-2
-is-sized-requires-2 c κs = search needs
+is-sized-requires-2 c κs = tt
 
 returns : tie.Need-returns
 returns c = λ e.

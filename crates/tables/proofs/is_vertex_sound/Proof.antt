@@ -42,7 +42,7 @@ shared-slice-read-is-point-sound-3 : tie.Need-shared-slice-read-is-point-sound-3
 shared-slice-read-is-point-sound-3 c = search needs
 
 is-point-sound-requires : tie.Need-is-point-sound-requires
-is-point-sound-requires c κs = search needs
+is-point-sound-requires c κs = tt
 
 returns : tie.Need-returns
 returns c = λ e. given-sound _ _ _ (c .before .before .before .before .if1 .taken) (told-none _ _ (c .is-point-sound .ensures) e)
