@@ -1,11 +1,10 @@
 -- `wire_kinds::is_closed` meets its contract. Assumes nothing.
-use borrow.Author.Needs.{needs}
 use Rattle.wire_kinds.specs.Kinds.{isClosed}
 use Rattle.wire_kinds.proofs.is_closed.Statement.{statement}
 use Rattle.wire_kinds.proofs.is_closed.Tie as tie
 
 distance2-uv-requires : tie.Need-distance2-uv-requires
-distance2-uv-requires c κs = search needs
+distance2-uv-requires c κs = tt
 
 returns : tie.Need-returns
 unfolding isClosed

@@ -8,10 +8,10 @@ type-at-requires : tie.Need-type-at-requires
 type-at-requires c κs = search needs
 
 is-open-requires : tie.Need-is-open-requires
-is-open-requires c κs = search needs
+is-open-requires c κs = tt
 
 is-same-requires : tie.Need-is-same-requires
-is-same-requires c κs = search needs
+is-same-requires c κs = tt
 
 returns : tie.Need-returns
 unfolding isWanted

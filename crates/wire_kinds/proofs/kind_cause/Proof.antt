@@ -1,23 +1,22 @@
 -- `wire_kinds::kind_cause` meets its contract. Assumes nothing.
-use borrow.Author.Needs.{needs}
 use Rattle.wire_kinds.specs.Kinds.{kindCauseOf}
 use Rattle.wire_kinds.proofs.kind_cause.Statement.{statement}
 use Rattle.wire_kinds.proofs.kind_cause.Tie as tie
 
 uv-requires : tie.Need-uv-requires
-uv-requires c κs = search needs
+uv-requires c κs = tt
 
 uv-requires-2 : tie.Need-uv-requires-2
-uv-requires-2 c κs = search needs
+uv-requires-2 c κs = tt
 
 float-requires : tie.Need-float-requires
-float-requires c κs = search needs
+float-requires c κs = tt
 
 lower-requires : tie.Need-lower-requires
-lower-requires c κs = search needs
+lower-requires c κs = tt
 
 lower-requires-2 : tie.Need-lower-requires-2
-lower-requires-2 c κs = search needs
+lower-requires-2 c κs = tt
 
 returns : tie.Need-returns
 unfolding kindCauseOf

@@ -1,11 +1,10 @@
 -- `wire_kinds::kind_of` meets its contract. Assumes nothing.
-use borrow.Author.Needs.{needs}
 use Rattle.wire_kinds.specs.Kinds.{boundaryType}
 use Rattle.wire_kinds.proofs.kind_of.Statement.{statement}
 use Rattle.wire_kinds.proofs.kind_of.Tie as tie
 
 is-closed-requires : tie.Need-is-closed-requires
-is-closed-requires c κs = search needs
+is-closed-requires c κs = tt
 
 returns : tie.Need-returns
 unfolding boundaryType

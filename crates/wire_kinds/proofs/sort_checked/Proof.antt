@@ -42,10 +42,10 @@ copy-requires-2 : tie.Need-copy-requires-2
 copy-requires-2 c κs = (found-in _ _ _ (c .before .before .before .before .before .before .before .before .before .before .before .gather2 .ensures .0) (c .before .before .before .before .before .before .before .before .before .before .before .gather2 .ensures .1), c .before .before .before .before .before .before .before .if3 .left)
 
 same-length : tie.Need-same-length
-same-length c = search needs
+same-length c = c .before .before .before .before .before .before .before .copy .kept .1 .1 .0
 
 same-length-2 : tie.Need-same-length-2
-same-length-2 c = search needs
+same-length-2 c = c .before .before .copy2 .kept .1 .1 .0
 
 returns-4 : tie.Need-returns-4
 returns-4 c = sort-done _ _ _ _ (c .before .before .before .before .before .before .before .before .before .before .before .before .before .before .before .before .before .before .before .before .before .before .pre) _ _ _ _ _ _ (c .before .before .before .before .before .before .before .before .before .before .before .before .before .before .before .before .before .gather .ensures .1) (c .before .before .before .before .before .before .before .before .before .before .before .before .before .before .gather2 .ensures .1) (c .before .before .before .before .before .before .before .before .before .before .before .before .if1 .left) (c .before .before .before .before .before .before .before .before .before .before .before .if2 .left) (c .before .before .before .before .before .before .before .before .before .before .if3 .left) (c .before .before .before .before .before .before .before .before .before .before .before .before .before .before .before .before .before .gather .ensures .0) (c .before .before .before .before .before .before .before .before .before .before .before .before .before .before .gather2 .ensures .0) (c .before .before .before .before .before .before .before .copy .ensures) (c .before .before .copy2 .ensures)

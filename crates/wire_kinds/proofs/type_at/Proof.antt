@@ -50,7 +50,7 @@ shared-slice-read-kind-of-3 : tie.Need-shared-slice-read-kind-of-3
 shared-slice-read-kind-of-3 c = search needs
 
 kind-of-requires : tie.Need-kind-of-requires
-kind-of-requires c κs = search needs
+kind-of-requires c κs = tt
 
 returns : tie.Need-returns
 unfolding typeAt

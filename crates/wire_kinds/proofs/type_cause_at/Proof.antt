@@ -50,7 +50,7 @@ shared-slice-read-kind-cause-3 : tie.Need-shared-slice-read-kind-cause-3
 shared-slice-read-kind-cause-3 c = search needs
 
 kind-cause-requires : tie.Need-kind-cause-requires
-kind-cause-requires c κs = search needs
+kind-cause-requires c κs = tt
 
 returns : tie.Need-returns
 unfolding typeCauseAt

@@ -21,7 +21,7 @@ type-cause-at-requires : tie.Need-type-cause-at-requires Inv-loop μ-loop
 type-cause-at-requires c κs = omega arith
 
 lower-requires : tie.Need-lower-requires Inv-loop μ-loop
-lower-requires c κs = omega arith
+lower-requires c κs = tt
 
 add-i : tie.Need-add-i Inv-loop μ-loop
 add-i c = omega arith
