@@ -1,24 +1,23 @@
 -- `periodic::copy_nearest` meets its contract. Assumes nothing.
-use borrow.Author.Needs.{needs}
 use Rattle.periodic.specs.Copies.{nearestCopyOf}
 use Rattle.periodic.proofs.Choices.{foldl-parts}
 use Rattle.periodic.proofs.copy_nearest.Statement.{statement}
 use Rattle.periodic.proofs.copy_nearest.Tie as tie
 
 first-shift-requires : tie.Need-first-shift-requires
-first-shift-requires c κs = search needs
+first-shift-requires c κs = tt
 
 first-shift-requires-2 : tie.Need-first-shift-requires-2
-first-shift-requires-2 c κs = search needs
+first-shift-requires-2 c κs = tt
 
 shift-requires : tie.Need-shift-requires
-shift-requires c κs = search needs
+shift-requires c κs = tt
 
 later-along-requires : tie.Need-later-along-requires
-later-along-requires c κs = search needs
+later-along-requires c κs = tt
 
 over-later-requires : tie.Need-over-later-requires
-over-later-requires c κs = search needs
+over-later-requires c κs = tt
 
 returns : tie.Need-returns
 unfolding nearestCopyOf

@@ -10,25 +10,25 @@ array-read-nearer-2 : tie.Need-array-read-nearer-2
 array-read-nearer-2 c = search needs
 
 nearer-requires : tie.Need-nearer-requires
-nearer-requires c κs = search needs
+nearer-requires c κs = tt
 
 array-read-nearer-3 : tie.Need-array-read-nearer-3
 array-read-nearer-3 c = search needs
 
 nearer-requires-2 : tie.Need-nearer-requires-2
-nearer-requires-2 c κs = search needs
+nearer-requires-2 c κs = tt
 
 array-read-nearer-4 : tie.Need-array-read-nearer-4
 array-read-nearer-4 c = search needs
 
 nearer-requires-3 : tie.Need-nearer-requires-3
-nearer-requires-3 c κs = search needs
+nearer-requires-3 c κs = tt
 
 array-read-nearer-5 : tie.Need-array-read-nearer-5
 array-read-nearer-5 c = search needs
 
 nearer-requires-4 : tie.Need-nearer-requires-4
-nearer-requires-4 c κs = search needs
+nearer-requires-4 c κs = tt
 
 returns : tie.Need-returns
 returns c = rw (c .nearer4 .ensures, c .before .nearer3 .ensures, c .before .before .nearer2 .ensures, c .before .before .before .nearer .ensures)

@@ -1,5 +1,4 @@
 -- `periodic::get_mindiff` meets its contract. Assumes nothing.
-use borrow.Author.Needs.{needs}
 use Rattle.checks.proofs.Small.{refuses, answers}
 use Rattle.periodic.specs.Unwrap.{getMindiff}
 use Rattle.periodic.proofs.Refused.{unwrap-cause-small}
@@ -7,17 +6,17 @@ use Rattle.periodic.proofs.get_mindiff.Statement.{statement}
 use Rattle.periodic.proofs.get_mindiff.Tie as tie
 
 unwrap-cause-requires : tie.Need-unwrap-cause-requires
-unwrap-cause-requires c κs = search needs
+unwrap-cause-requires c κs = tt
 
 refusal-of-requires : tie.Need-refusal-of-requires
-refusal-of-requires c κs = search needs
+refusal-of-requires c κs = tt
 
 returns : tie.Need-returns
 unfolding getMindiff
 returns c = refuses _ _ _ (c .before .before .unwrap-cause .ensures) _ (c .refusal-of .ensures) (unwrap-cause-small _ _ _) (c .before .if1 .taken)
 
 unwrap-requires : tie.Need-unwrap-requires
-unwrap-requires c κs = search needs
+unwrap-requires c κs = tt
 
 returns-2 : tie.Need-returns-2
 unfolding getMindiff

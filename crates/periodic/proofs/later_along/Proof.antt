@@ -13,28 +13,28 @@ enum-known-vp : tie.Need-enum-known-vp
 enum-known-vp c = search needs
 
 shift-requires : tie.Need-shift-requires
-shift-requires c κs = search needs
+shift-requires c κs = tt
 
 closer-requires : tie.Need-closer-requires
-closer-requires c κs = search needs
+closer-requires c κs = tt
 
 shift-requires-2 : tie.Need-shift-requires-2
-shift-requires-2 c κs = search needs
+shift-requires-2 c κs = tt
 
 closer-requires-2 : tie.Need-closer-requires-2
-closer-requires-2 c κs = search needs
+closer-requires-2 c κs = tt
 
 shift-requires-3 : tie.Need-shift-requires-3
-shift-requires-3 c κs = search needs
+shift-requires-3 c κs = tt
 
 closer-requires-3 : tie.Need-closer-requires-3
-closer-requires-3 c κs = search needs
+closer-requires-3 c κs = tt
 
 shift-requires-4 : tie.Need-shift-requires-4
-shift-requires-4 c κs = search needs
+shift-requires-4 c κs = tt
 
 closer-requires-4 : tie.Need-closer-requires-4
-closer-requires-4 c κs = search needs
+closer-requires-4 c κs = tt
 
 returns : tie.Need-returns
 returns c = search needs

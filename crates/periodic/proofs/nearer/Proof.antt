@@ -1,15 +1,14 @@
 -- `periodic::nearer` meets its contract. Assumes nothing.
-use borrow.Author.Needs.{needs}
 use Rattle.periodic.specs.Unwrap.{awayFrom}
 use Rattle.compress.proofs.Choices.{takes-later, takes-earlier}
 use Rattle.periodic.proofs.nearer.Statement.{statement}
 use Rattle.periodic.proofs.nearer.Tie as tie
 
 size-requires : tie.Need-size-requires
-size-requires c κs = search needs
+size-requires c κs = tt
 
 size-requires-2 : tie.Need-size-requires-2
-size-requires-2 c κs = search needs
+size-requires-2 c κs = tt
 
 returns : tie.Need-returns
 unfolding awayFrom

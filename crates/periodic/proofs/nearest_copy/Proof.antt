@@ -1,5 +1,4 @@
 -- `periodic::nearest_copy` meets its contract. Assumes nothing.
-use borrow.Author.Needs.{needs}
 use Rattle.checks.proofs.Small.{refuses, answers}
 use Rattle.periodic.specs.Copies.{nearestCopySaid}
 use Rattle.periodic.proofs.Refused.{copy-cause-small}
@@ -7,17 +6,17 @@ use Rattle.periodic.proofs.nearest_copy.Statement.{statement}
 use Rattle.periodic.proofs.nearest_copy.Tie as tie
 
 copy-cause-requires : tie.Need-copy-cause-requires
-copy-cause-requires c κs = search needs
+copy-cause-requires c κs = tt
 
 refusal-of-requires : tie.Need-refusal-of-requires
-refusal-of-requires c κs = search needs
+refusal-of-requires c κs = tt
 
 returns : tie.Need-returns
 unfolding nearestCopySaid
 returns c = refuses _ _ _ (c .before .before .copy-cause .ensures) _ (c .refusal-of .ensures) (copy-cause-small _ _ _ _) (c .before .if1 .taken)
 
 copy-nearest-requires : tie.Need-copy-nearest-requires
-copy-nearest-requires c κs = search needs
+copy-nearest-requires c κs = tt
 
 returns-2 : tie.Need-returns-2
 unfolding nearestCopySaid

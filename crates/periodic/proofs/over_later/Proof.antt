@@ -15,16 +15,16 @@ enum-known-up : tie.Need-enum-known-up
 enum-known-up c = search needs
 
 along-requires : tie.Need-along-requires
-along-requires c κs = search needs
+along-requires c κs = tt
 
 along-requires-2 : tie.Need-along-requires-2
-along-requires-2 c κs = search needs
+along-requires-2 c κs = tt
 
 along-requires-3 : tie.Need-along-requires-3
-along-requires-3 c κs = search needs
+along-requires-3 c κs = tt
 
 along-requires-4 : tie.Need-along-requires-4
-along-requires-4 c κs = search needs
+along-requires-4 c κs = tt
 
 returns : tie.Need-returns
 returns c = search needs

@@ -11,7 +11,7 @@ enum-known-period : tie.Need-enum-known-period
 enum-known-period c = search needs
 
 period-requires : tie.Need-period-requires
-period-requires c κs = search needs
+period-requires c κs = tt
 
 returns : tie.Need-returns
 unfolding periodCauseOf

@@ -11,10 +11,10 @@ enum-known-period : tie.Need-enum-known-period
 enum-known-period c = search needs
 
 candidates-requires : tie.Need-candidates-requires
-candidates-requires c κs = search needs
+candidates-requires c κs = tt
 
 first-nearest-requires : tie.Need-first-nearest-requires
-first-nearest-requires c κs = search needs
+first-nearest-requires c κs = tt
 
 returns : tie.Need-returns
 unfolding unwrapped

@@ -1,23 +1,22 @@
 -- `periodic::unwrap_cause` meets its contract. Assumes nothing.
-use borrow.Author.Needs.{needs}
 use Rattle.periodic.specs.Unwrap.{unwrapCause}
 use Rattle.periodic.proofs.unwrap_cause.Statement.{statement}
 use Rattle.periodic.proofs.unwrap_cause.Tie as tie
 
 period-cause-requires : tie.Need-period-cause-requires
-period-cause-requires c κs = search needs
+period-cause-requires c κs = tt
 
 float-requires : tie.Need-float-requires
-float-requires c κs = search needs
+float-requires c κs = tt
 
 float-requires-2 : tie.Need-float-requires-2
-float-requires-2 c κs = search needs
+float-requires-2 c κs = tt
 
 lower-requires : tie.Need-lower-requires
-lower-requires c κs = search needs
+lower-requires c κs = tt
 
 lower-requires-2 : tie.Need-lower-requires-2
-lower-requires-2 c κs = search needs
+lower-requires-2 c κs = tt
 
 returns : tie.Need-returns
 unfolding unwrapCause
