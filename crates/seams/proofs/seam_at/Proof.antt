@@ -31,7 +31,7 @@ shared-slice-read-seam-of-2 : tie.Need-shared-slice-read-seam-of-2
 shared-slice-read-seam-of-2 c = search needs
 
 seam-of-requires : tie.Need-seam-of-requires
-seam-of-requires c κs = search needs
+seam-of-requires c κs = tt
 
 returns : tie.Need-returns
 returns c =

@@ -11,16 +11,16 @@ shared-slice-read-vertex-number : tie.Need-shared-slice-read-vertex-number
 shared-slice-read-vertex-number c = search needs
 
 vertex-number-requires : tie.Need-vertex-number-requires
-vertex-number-requires c κs = search needs
+vertex-number-requires c κs = tt
 
 point-at-requires : tie.Need-point-at-requires
 point-at-requires c κs = search needs
 
 uv-requires : tie.Need-uv-requires
-uv-requires c κs = search needs
+uv-requires c κs = tt
 
 lower-requires : tie.Need-lower-requires
-lower-requires c κs = search needs
+lower-requires c κs = tt
 
 returns : tie.Need-returns
 unfolding stopCause

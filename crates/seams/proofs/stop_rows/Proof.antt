@@ -21,7 +21,7 @@ stop-cause-requires : tie.Need-stop-cause-requires Inv-loop μ-loop
 stop-cause-requires c κs = (omega arith, omega arith)
 
 lower-requires : tie.Need-lower-requires Inv-loop μ-loop
-lower-requires c κs = omega arith
+lower-requires c κs = tt
 
 add-i : tie.Need-add-i Inv-loop μ-loop
 add-i c = omega arith
