@@ -7,7 +7,7 @@ point-at-requires : tie.Need-point-at-requires
 point-at-requires c κs = search needs
 
 point-gap-requires : tie.Need-point-gap-requires
-point-gap-requires c κs = search needs
+point-gap-requires c κs = tt
 
 returns : tie.Need-returns
 returns c = rw (c .point-gap .ensures, c .before .point-at .ensures)

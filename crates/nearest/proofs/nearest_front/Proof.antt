@@ -53,7 +53,7 @@ away-at-requires-2 c κs =
     vertex-row _ _ _ _ (pre .0 .0) (rw (c .front-at2 .ensures) (front-below (a .vertices) (a .edge-numbers .now) (a .edge-floats .now) (a .edges) (getD (a .stretch .now) (l .i) 0) (pre .0 .1) (pre .1 .2 (l .i) (c .before .before .loop-test .taken))))
 
 less-away-requires : tie.Need-less-away-requires Inv-loop μ-loop
-less-away-requires c κs = omega arith
+less-away-requires c κs = tt
 
 add-i : tie.Need-add-i Inv-loop μ-loop
 add-i c = omega (arith, c .before .before .before .before .before .before .before .before .before .before .before .before .before .before .before .good .1 .1 .1 .1 .1 .1 .0 .0)

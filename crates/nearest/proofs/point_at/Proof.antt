@@ -7,7 +7,7 @@ vertex-at-requires : tie.Need-vertex-at-requires
 vertex-at-requires c κs = search needs
 
 point-of-requires : tie.Need-point-of-requires
-point-of-requires c κs = search needs
+point-of-requires c κs = tt
 
 returns : tie.Need-returns
 returns c = rw (c .point-of .ensures, c .before .vertex-at .ensures)

@@ -1,11 +1,10 @@
 -- `nearest::point_gap` meets its contract. Assumes nothing.
-use borrow.Author.Needs.{needs}
 use Rattle.nearest.specs.Ends.{pointGap}
 use Rattle.nearest.proofs.point_gap.Statement.{statement}
 use Rattle.nearest.proofs.point_gap.Tie as tie
 
 distance2-xyz-requires : tie.Need-distance2-xyz-requires
-distance2-xyz-requires c κs = search needs
+distance2-xyz-requires c κs = tt
 
 returns : tie.Need-returns
 unfolding pointGap
