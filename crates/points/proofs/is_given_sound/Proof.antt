@@ -47,7 +47,7 @@ shared-slice-read-is-point-sound-3 : tie.Need-shared-slice-read-is-point-sound-3
 shared-slice-read-is-point-sound-3 c = search needs
 
 is-point-sound-requires : tie.Need-is-point-sound-requires
-is-point-sound-requires c κs = search needs
+is-point-sound-requires c κs = tt
 
 returns-2 : tie.Need-returns-2
 returns-2 c = let a = c .before .before .before .before .before .before .before .before .args in rw (row-cause (a .numbers .now) (a .floats .now) (a .i) (c .before .before .before .before .if1 .left)) (c .is-point-sound .ensures)

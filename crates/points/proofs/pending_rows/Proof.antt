@@ -26,10 +26,10 @@ shared-slice-read-cause-when : tie.Need-shared-slice-read-cause-when Inv-loop μ
 shared-slice-read-cause-when c = omega arith
 
 cause-when-requires : tie.Need-cause-when-requires Inv-loop μ-loop
-cause-when-requires c κs = omega arith
+cause-when-requires c κs = tt
 
 lower-requires : tie.Need-lower-requires Inv-loop μ-loop
-lower-requires c κs = omega arith
+lower-requires c κs = tt
 
 add-i : tie.Need-add-i Inv-loop μ-loop
 add-i c = omega arith
