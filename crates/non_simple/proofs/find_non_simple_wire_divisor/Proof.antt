@@ -8,10 +8,10 @@ use Rattle.non_simple.proofs.find_non_simple_wire_divisor.Statement.{st
 use Rattle.non_simple.proofs.find_non_simple_wire_divisor.Tie as tie
 
 search-cause-requires : tie.Need-search-cause-requires
-search-cause-requires c κs = search needs
+search-cause-requires c κs = tt
 
 refusal-of-requires : tie.Need-refusal-of-requires
-refusal-of-requires c κs = search needs
+refusal-of-requires c κs = tt
 
 returns : tie.Need-returns
 unfolding findNonSimple

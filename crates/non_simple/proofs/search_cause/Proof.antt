@@ -1,17 +1,16 @@
 -- `non_simple::search_cause` meets its contract. Assumes nothing.
-use borrow.Author.Needs.{needs}
 use Rattle.non_simple.specs.Divisor.{searchCause}
 use Rattle.non_simple.proofs.search_cause.Statement.{statement}
 use Rattle.non_simple.proofs.search_cause.Tie as tie
 
 tables-cause-requires : tie.Need-tables-cause-requires
-tables-cause-requires c κs = search needs
+tables-cause-requires c κs = tt
 
 wires-requires : tie.Need-wires-requires
-wires-requires c κs = search needs
+wires-requires c κs = tt
 
 lower-requires : tie.Need-lower-requires
-lower-requires c κs = search needs
+lower-requires c κs = tt
 
 returns : tie.Need-returns
 unfolding searchCause

@@ -38,7 +38,7 @@ mul-wire-divisor c =
     omega (arith, l .0, l .1)
 
 sub-wire-divisor : tie.Need-sub-wire-divisor Inv-loop μ-loop
-sub-wire-divisor c = omega arith
+sub-wire-divisor c = omega (arith, c .before .loop-test .taken)
 
 part-wire-divisor-start : tie.Need-part-wire-divisor-start Inv-loop μ-loop
 part-wire-divisor-start c =
@@ -57,7 +57,7 @@ wire-divisor-requires c κs =
     ((p .0 .0, p .0 .1, omega (arith, p .0 .2, c .before .before .before .before .loop .inv .same)), (omega (arith, l .0, l .1, l .3), here-uses _ _ _ _ _ _ (p .1) _ _ _ _ (c .before .before .before .before .loop .inv) (c .before .before .before .loop-test .taken)))
 
 is-none-requires : tie.Need-is-none-requires Inv-loop μ-loop
-is-none-requires c κs = omega arith
+is-none-requires c κs = tt
 
 same-length : tie.Need-same-length Inv-loop μ-loop
 same-length c = c .before .before .before .before .wire-divisor .kept .1 .1 .1 .1 .1 .1 .1 .0 ∙ c .before .before .before .before .before .before .before .before .before .loop .inv .same
@@ -66,16 +66,16 @@ returns : tie.Need-returns Inv-loop μ-loop
 returns c = scanning-found _ _ _ _ _ _ (c .before .before .before .before .before .before .before .before .before .before .before .before .before .before .before .before .before .pre .1) _ _ _ _ (c .before .before .before .before .before .before .before .before .before .loop .inv) (c .before .before .before .before .before .before .before .before .loop-test .taken) _ (c .before .before .before .before .wire-divisor .ensures) (sym (c .before .is-none .ensures) ∙ not-true _ (c .if1 .taken))
 
 add-w : tie.Need-add-w Inv-loop μ-loop
-add-w c = omega arith
+add-w c = omega (arith, c .before .before .before .before .before .before .before .before .loop-test .taken, c .before .before .before .before .before .before .before .before .before .before .before .before .before .before .before .before .before .fits .wires)
 
 loop-less : tie.Need-loop-less Inv-loop μ-loop
-loop-less c = omega arith
+loop-less c = omega (arith, c .before .before .before .before .before .before .before .before .loop-test .taken)
 
 loop-again : tie.Need-loop-again Inv-loop μ-loop
 loop-again c = scanning-turn _ _ _ _ _ _ (c .before .before .before .before .before .before .before .before .before .before .before .before .before .before .before .before .before .pre .1) _ _ _ _ (c .before .before .before .before .before .before .before .before .before .loop .inv) (c .before .before .before .before .before .before .before .before .loop-test .taken) _ _ (c .before .before .before .before .wire-divisor .ensures) (sym (c .before .is-none .ensures) ∙ not-false _ (c .if1 .left)) (c .before .before .before .before .wire-divisor .kept .1 .1 .1 .1 .1 .1 .1 .0)
 
 same-length-2 : tie.Need-same-length-2 Inv-loop μ-loop
-same-length-2 c = omega (arith, c .before .loop .inv)
+same-length-2 c = c .before .loop .inv .same
 
 returns-2 : tie.Need-returns-2 Inv-loop μ-loop
 returns-2 c = scanning-done _ _ _ _ _ _ (c .before .before .before .before .before .before .before .before .before .pre .1) _ _ _ _ (c .before .loop .inv) (c .loop-test .left)
