@@ -1,23 +1,22 @@
 -- `correction::ends_cause` meets its contract. Assumes nothing.
-use borrow.Author.Needs.{needs}
 use Rattle.correction.specs.Correction.{endsCause}
 use Rattle.correction.proofs.ends_cause.Statement.{statement}
 use Rattle.correction.proofs.ends_cause.Tie as tie
 
 tables-cause-requires : tie.Need-tables-cause-requires
-tables-cause-requires c κs = search needs
+tables-cause-requires c κs = tt
 
 stretches-cause-requires : tie.Need-stretches-cause-requires
-stretches-cause-requires c κs = search needs
+stretches-cause-requires c κs = tt
 
 vertex-number-requires : tie.Need-vertex-number-requires
-vertex-number-requires c κs = search needs
+vertex-number-requires c κs = tt
 
 lower-requires : tie.Need-lower-requires
-lower-requires c κs = search needs
+lower-requires c κs = tt
 
 lower-requires-2 : tie.Need-lower-requires-2
-lower-requires-2 c κs = search needs
+lower-requires-2 c κs = tt
 
 returns : tie.Need-returns
 unfolding endsCause

@@ -1,6 +1,5 @@
 -- `correction::nearest_correction` meets its contract. Assumes nothing.
 use mathlib.Core.Path.{sym, _∙_}
-use borrow.Author.Needs.{needs}
 use Rattle.checks.proofs.Small.{refuses, answers}
 use Rattle.correction.specs.Correction.{nearestCorrection}
 use Rattle.correction.proofs.Accepted.{ends-accepted, ends-small}
@@ -8,10 +7,10 @@ use Rattle.correction.proofs.nearest_correction.Statement.{statement}
 use Rattle.correction.proofs.nearest_correction.Tie as tie
 
 ends-cause-requires : tie.Need-ends-cause-requires
-ends-cause-requires c κs = search needs
+ends-cause-requires c κs = tt
 
 refusal-of-requires : tie.Need-refusal-of-requires
-refusal-of-requires c κs = search needs
+refusal-of-requires c κs = tt
 
 returns : tie.Need-returns
 unfolding nearestCorrection

@@ -34,7 +34,7 @@ use-rows-requires-2 : tie.Need-use-rows-requires-2
 use-rows-requires-2 c κs = search needs
 
 lower-requires : tie.Need-lower-requires
-lower-requires c κs = search needs
+lower-requires c κs = tt
 
 returns-5 : tie.Need-returns-5
 unfolding stretchesCause
