@@ -9,19 +9,19 @@ enum-known-answer : tie.Need-enum-known-answer
 enum-known-answer c = search needs
 
 write-vertices-requires : tie.Need-write-vertices-requires
-write-vertices-requires c κs = search needs
+write-vertices-requires c κs = tt
 
 enum-told : tie.Need-enum-told
 enum-told c = search needs
 
 write-none-requires : tie.Need-write-none-requires
-write-none-requires c κs = search needs
+write-none-requires c κs = tt
 
 enum-known-answer-2 : tie.Need-enum-known-answer-2
 enum-known-answer-2 c = search needs
 
 write-refusal-requires : tie.Need-write-refusal-requires
-write-refusal-requires c κs = search needs
+write-refusal-requires c κs = tt
 
 returns : tie.Need-returns
 returns c = λ h. absurd (subst T h tt)
