@@ -9,10 +9,10 @@ enum-known-answer : tie.Need-enum-known-answer
 enum-known-answer c = search needs
 
 write-refusal-requires : tie.Need-write-refusal-requires
-write-refusal-requires c κs = search needs
+write-refusal-requires c κs = tt
 
 stopped-requires : tie.Need-stopped-requires
-stopped-requires c κs = search needs
+stopped-requires c κs = tt
 
 enum-known-answer-2 : tie.Need-enum-known-answer-2
 enum-known-answer-2 c = search needs
@@ -21,16 +21,16 @@ slice-aggregate-text : tie.Need-slice-aggregate-text
 slice-aggregate-text c = search needs
 
 text-requires : tie.Need-text-requires
-text-requires c κs = search needs
+text-requires c κs = tt
 
 counted-requires : tie.Need-counted-requires
-counted-requires c κs = search needs
+counted-requires c κs = tt
 
 wires-counted-requires : tie.Need-wires-counted-requires
-wires-counted-requires c κs = search needs
+wires-counted-requires c κs = tt
 
 shell-of-requires : tie.Need-shell-of-requires
-shell-of-requires c κs = search needs
+shell-of-requires c κs = tt
 
 write-shell-requires : tie.Need-write-shell-requires
 write-shell-requires c κs = tt

@@ -33,7 +33,7 @@ slice-aggregate-split-boundaries-by-divisor-7 :
 slice-aggregate-split-boundaries-by-divisor-7 c = search needs
 
 seam-points-requires : tie.Need-seam-points-requires
-seam-points-requires c κs = search needs
+seam-points-requires c κs = tt
 
 slice-aggregate-split-boundaries-by-divisor-8 :
     tie.Need-slice-aggregate-split-boundaries-by-divisor-8
@@ -48,19 +48,19 @@ slice-aggregate-split-boundaries-by-divisor-10 :
 slice-aggregate-split-boundaries-by-divisor-10 c = search needs
 
 split-boundaries-by-divisor-requires : tie.Need-split-boundaries-by-divisor-requires
-split-boundaries-by-divisor-requires c κs = search needs
+split-boundaries-by-divisor-requires c κs = tt
 
 edge-table-requires : tie.Need-edge-table-requires
-edge-table-requires c κs = search needs
+edge-table-requires c κs = tt
 
 wire-table-requires : tie.Need-wire-table-requires
-wire-table-requires c κs = search needs
+wire-table-requires c κs = tt
 
 shell-of-requires : tie.Need-shell-of-requires
-shell-of-requires c κs = search needs
+shell-of-requires c κs = tt
 
 after-split-requires : tie.Need-after-split-requires
-after-split-requires c κs = search needs
+after-split-requires c κs = tt
 
 returns : tie.Need-returns
 returns c = c .after-split .ensures ∙ ap (λ (q : Shell). q .vertices) (c .before .shell-of .ensures)
