@@ -12,7 +12,7 @@ slice-aggregate-text : tie.Need-slice-aggregate-text
 slice-aggregate-text c = search needs
 
 text-requires : tie.Need-text-requires
-text-requires c κs = search needs
+text-requires c κs = tt
 
 write-wires-requires : tie.Need-write-wires-requires
 write-wires-requires c κs = tt
@@ -24,19 +24,19 @@ slice-aggregate-text-2 : tie.Need-slice-aggregate-text-2
 slice-aggregate-text-2 c = search needs
 
 text-requires-2 : tie.Need-text-requires-2
-text-requires-2 c κs = search needs
+text-requires-2 c κs = tt
 
 stopped-requires : tie.Need-stopped-requires
-stopped-requires c κs = search needs
+stopped-requires c κs = tt
 
 enum-known-answer : tie.Need-enum-known-answer
 enum-known-answer c = search needs
 
 write-refusal-requires : tie.Need-write-refusal-requires
-write-refusal-requires c κs = search needs
+write-refusal-requires c κs = tt
 
 stopped-requires-2 : tie.Need-stopped-requires-2
-stopped-requires-2 c κs = search needs
+stopped-requires-2 c κs = tt
 
 returns : tie.Need-returns
 returns c = (refl, refl)

@@ -18,16 +18,16 @@ slice-aggregate-connect-open-boundaries-4 : tie.Need-slice-aggregate-connect-ope
 slice-aggregate-connect-open-boundaries-4 c = search needs
 
 connect-open-boundaries-requires : tie.Need-connect-open-boundaries-requires
-connect-open-boundaries-requires c κs = search needs
+connect-open-boundaries-requires c κs = tt
 
 wire-table-requires : tie.Need-wire-table-requires
-wire-table-requires c κs = search needs
+wire-table-requires c κs = tt
 
 shell-of-requires : tie.Need-shell-of-requires
-shell-of-requires c κs = search needs
+shell-of-requires c κs = tt
 
 after-join-requires : tie.Need-after-join-requires
-after-join-requires c κs = search needs
+after-join-requires c κs = tt
 
 returns : tie.Need-returns
 returns c =
