@@ -1,8 +1,8 @@
 /*
  * Kaugrenna: cut edges and mended wires for burner pipe shells, verified.
  *
- * The ten calls of libhealing.a, which `rt staticlib healing` writes to
- * target/staticlib. Each has its contract, which is proved, in
+ * The ten calls of libhealing.a, which `rt lib` in crates/healing writes to
+ * crates/healing/out. Each has its contract, which is proved, in
  * crates/healing/src; document 01 is the specification.
  *
  * Answers. Every call answers 0 for a result, whose values stand in the

@@ -1,14 +1,18 @@
 // Document 01's worked cases that are run, K14 to K19: a line for each, with its name and `same` where the whole answer, lent buffers
 // included, is document 01's, else `other`.
+#![tactic(auto)]
+
 ghost use Rattle.std.specs.Prelude.{◌≡◌, true, false, ℕ, ◌<◌, length, get_or};
 ghost use Rattle.std.specs.Float.{nan, binary64};
 ghost use Rattle.std.specs.Float.Ieee.{of_bits, ne};
 
 use compress::Uv;
 use joined::Join;
-use libc::STDOUT_FILENO;
 use split::Boundaries;
 use wire_kinds::{BoundaryType, WireKind};
+
+// The descriptor of standard output.
+const STDOUT_FILENO: i32 = 1;
 
 // Both hold the same numbers.
 fn is_same(a: &[u32], b: &[u32]) -> bool

@@ -1,4 +1,6 @@
 // `add_edges` of document 001: every edge with equal ends is cut at the middle of its curve, in the tables; and the map that tells which edges were cut.
+#![tactic(auto)]
+
 ghost use Rattle.std.specs.Prelude.{◌≡◌, true, List, Float, ◌+◌, ◌*◌, ◌≤◌, ◌<◌, length};
 ghost use Rattle.compress.specs.Records.{closed, pick};
 ghost use Rattle.compress.specs.Layout.{rows};

@@ -15,9 +15,8 @@ use Rattle.floats.specs.Exact.{big, sized_of}
 use Rattle.floats.specs.Value.{Held, Sle, test→sle}
 use Rattle.floats.specs.Rounds.{neg_held, held_between}
 use Rattle.floats.specs.Mono.{le_trans_held}
-use Rattle.floats.specs.Sized.{big_held, sized_held}
+use Rattle.floats.proofs.Sized.{big_held, sized_held}
 use Rattle.compress.specs.declared.Uv.{Uv}
-use Rattle.compress.specs.declared.Curve.{Curve}
 use Rattle.compress.specs.declared.Curve.TheVariants.{Span, Seam}
 use Rattle.compress.specs.declared.Vertex.TheVariants.{Pending}
 use Rattle.compress.specs.Records.{pick, first_of, last_of}

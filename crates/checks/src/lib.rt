@@ -1,5 +1,7 @@
 // Causes 1 to 5 of document 01's table, for lone numbers, records and wires: every input is checked, and the lowest number wins.
 // A cause is its number, and 0 is none. Each check answers for all numbers; what it answers is a definition of specs/Causes.
+#![tactic(auto)]
+
 ghost use Rattle.std.specs.Prelude.{◌≡◌, true, ◌+◌, ◌/◌, ◌≤◌, length, take, ltb};
 ghost use Rattle.compress.specs.Records.{pick, first_of, last_of};
 ghost use Rattle.compress.specs.Wires.{total};

@@ -1,4 +1,6 @@
 // The records of document 003 (`compress.rs`), the refusals of document 01, and the rows in which records lie in lent slices.
+#![tactic(auto)]
+
 ghost use Rattle.std.specs.Prelude.{◌≡◌, ◌+◌, ◌*◌, ◌/◌, ◌≤◌, length};
 ghost use Rattle.compress.specs.Records.{front_of, front_at};
 ghost use Rattle.compress.specs.Refusals.{refusal_number, refusal_of};
@@ -6,14 +8,14 @@ ghost use Rattle.compress.specs.Layout.{put};
 ghost use Rattle.compress.specs.Rows.{curve_of, curve_at, edge_at, vertex_at};
 
 // A point of a surface's parameter plane.
-#[derive(Drop)]
+#[derive(Clone, Copy)]
 pub struct Uv {
     pub u: f64,
     pub v: f64,
 }
 
 // A curve: a span of a numbered curve, or a seam on a numbered surface between two of its points. Both run from t0 to t1.
-#[derive(Drop)]
+#[derive(Clone, Copy)]
 pub enum Curve {
     Span {
         number: u32,
@@ -30,7 +32,7 @@ pub enum Curve {
 }
 
 // `CompressedEdge`: the two numbers of `vertices`, and `curve`.
-#[derive(Drop)]
+#[derive(Clone, Copy)]
 pub struct Edge {
     pub front: u32,
     pub back: u32,
@@ -38,14 +40,14 @@ pub struct Edge {
 }
 
 // A point of `CompressedShell`'s `vertices`: its coordinates, or the curve as it was before the cut, with the parameter.
-#[derive(Drop)]
+#[derive(Clone, Copy)]
 pub enum Vertex {
     Given { x: f64, y: f64, z: f64 },
     Pending { curve: Curve, t: f64 },
 }
 
 // Why a call is turned away: a case for each row of document 01's table, in its order.
-#[derive(Drop)]
+#[derive(Clone, Copy)]
 pub enum Refusal {
     Malformed,
     VertexNumber,

@@ -1,4 +1,6 @@
 // Document 000, `split_closed_faces.rs`: the call `nearest_correction`, with what it refuses.
+#![tactic(auto)]
+
 ghost use Rattle.std.specs.Prelude.{◌≡◌};
 ghost use Rattle.nearest.specs.Ends.{said_ends};
 ghost use Rattle.correction.specs.Correction.{stretches_cause, ends_cause, nearest_correction};

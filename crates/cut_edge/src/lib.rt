@@ -1,11 +1,13 @@
 // One edge cut in two: `cut_edge` of document 001, with the parameter halfway along a curve and the vertex that is pending there.
+#![tactic(auto)]
+
 ghost use Rattle.std.specs.Prelude.{◌≡◌};
 ghost use Rattle.cut_edge.specs.Cut.{Middle, up_to, from_on, halves_of, pending_of};
 
 use compress::{Curve, Edge, Vertex};
 
 // An edge that was cut, and the edge that was cut off.
-#[derive(Drop)]
+#[derive(Clone, Copy)]
 pub struct Halves {
     pub old: Edge,
     pub new: Edge,

@@ -1,4 +1,6 @@
 // The cuts of one edge: how they lie in their slice, their causes, and one of them written to the tables.
+#![tactic(auto)]
+
 ghost use Rattle.std.specs.Prelude.{◌≡◌, ◌+◌, ◌*◌, ◌≤◌, ◌<◌, length};
 ghost use Rattle.compress.specs.declared.Vertex.TheVariants.{Given};
 ghost use Rattle.compress.specs.Layout.{put};
@@ -10,7 +12,7 @@ ghost use Rattle.cuts.specs.Cuts.{cut_of, cut_at, cut_cause, cuts_cause};
 use compress::Vertex;
 
 // A cut: the parameter on the edge's curve, and the point there.
-#[derive(Drop)]
+#[derive(Clone, Copy)]
 pub struct Cut {
     pub t: f64,
     pub x: f64,

@@ -3,7 +3,7 @@
 use mathlib.Core.Path.{◌≡◌, refl, ap, sym, ◌∙◌}
 use mathlib.Core.Bool.{Bool, true, false}
 use mathlib.Core.List.{List, [], ◌∷◌, ◌++◌}
-use Prim.Native.Nat.{ℕ, zero, suc, ◌+◌, ◌-◌, ◌*◌, ◌/◌, ◌%◌, ◌≤◌, ◌<◌}
+use Prim.Native.Nat.{ℕ, zero, suc, ◌+◌, ◌*◌, ◌/◌, ◌%◌, ◌≤◌, ◌<◌}
 use native.Mathlib.Omega.{arith}
 use borrow.Author.Tests.{eqb-true, eqb-false, eq-eqb, ne_eqb}
 use lib.Dec.{eqb}
@@ -11,7 +11,7 @@ use lib.Ieee.{Float}
 use lib.ListN.{length, get_or, take, drop, length-drop}
 use lib.Seq.{get_or-take, get_or-drop, length-take-le}
 use Rattle.compress.specs.declared.Edge.{Edge}
-use Rattle.compress.specs.Records.{closed, forward, front_of, back_of, front_at, back_at}
+use Rattle.compress.specs.Records.{forward, front_of, back_of, front_at, back_at}
 use Rattle.compress.specs.Rows.{edge_at}
 use Rattle.compress.specs.Shell.{Shell, load}
 use Rattle.compress.specs.Wires.{total, wires_of}

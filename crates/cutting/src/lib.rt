@@ -1,4 +1,6 @@
 // What the calls that cut edges share: their answer, causes 1 to 5 over all that they are lent, and how many cuts the tables have room for.
+#![tactic(auto)]
+
 ghost use Rattle.std.specs.Prelude.{◌≡◌, ◌&&◌, ℕ, ◌+◌, ◌*◌, ◌≤◌, leb, length};
 ghost use Rattle.compress.specs.Shell.{vertices_fit, edges_fit};
 ghost use Rattle.cutting.specs.Least.{Least};
@@ -7,7 +9,7 @@ ghost use Rattle.cutting.specs.Contract.{lent_of, input_cause};
 use compress::Refusal;
 
 // The answer of a call that cuts edges: how many vertices, edges and uses there are now, or why the call was turned away.
-#[derive(Drop)]
+#[derive(Clone, Copy)]
 pub enum Split {
     Done {
         vertices: usize,

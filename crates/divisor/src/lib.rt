@@ -1,4 +1,6 @@
 // Document 01's "Non-simple wire", one wire: where it is divided, once an edge number that stands twice was found.
+#![tactic(auto)]
+
 ghost use Rattle.std.specs.Prelude.{◌≡◌, ℕ, ◌+◌, ◌/◌, ◌≤◌, ◌<◌, length, get_or};
 ghost use Rattle.compress.specs.Rows.{edge_at, vertex_at};
 ghost use Rattle.checks.specs.Causes.{vertices_cause, edges_cause};
@@ -11,7 +13,7 @@ use loops::Loop;
 use nearest::Ends;
 
 // The places i1 and j1.
-#[derive(Drop)]
+#[derive(Clone, Copy)]
 struct Second {
     i: usize,
     j: usize,

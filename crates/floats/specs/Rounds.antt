@@ -7,7 +7,7 @@ use Rattle.std.proofs.Math.Nat.{eq_of_mul-eq-mul_right, mul-mul-mul_comm, mul-su
 use Rattle.std.proofs.lemmas.Bool.{false≢true}
 use Rattle.std.proofs.Math.Dec.{eqb-suc-zero}
 use Rattle.std.specs.Float.{nan, inf, fin, Format}
-use Rattle.std.specs.Float.Ieee.{prec, emax, low, unlike, up, down, size, odd, units, round, neg, sum, add, sub, mul, div, fits, le}
+use Rattle.std.specs.Float.Ieee.{prec, emax, low, unlike, up, down, odd, units, round, neg, sum, add, sub, mul, div, fits, le}
 use Rattle.std.specs.Float.Ieee.Fits.{up_pos, down_pos, round_is, round-fits, neg-fits}
 use Rattle.std.specs.Float.Ieee.Order.{round_mono, kept, drop}
 use Rattle.std.specs.Float.Ieee.Scale.{finite, round_same}

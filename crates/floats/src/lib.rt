@@ -1,4 +1,6 @@
 // Formulas on f64, each with its one rounding a step, as the Rust works them out.
+#![tactic(auto)]
+
 ghost use Rattle.std.specs.Prelude.{◌≡◌};
 ghost use Rattle.floats.specs.Exact.{sized_of, Midpoint, distance2_uv, distance2_xyz};
 

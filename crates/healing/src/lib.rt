@@ -1,5 +1,7 @@
 // The calls for hosts in C and Rust: numbers and slices, and an i32 for the answer. Here the closed-edge pass; the modules have the others.
-mod cuts;
+#![tactic(auto)]
+
+mod cut;
 mod joins;
 mod kinds;
 mod periods;

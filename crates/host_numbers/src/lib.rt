@@ -1,4 +1,6 @@
 // What a host lends or is told as a number: the kind of a period, the kind of a wire, and a refusal.
+#![tactic(auto)]
+
 ghost use Rattle.std.specs.Prelude.{◌≡◌, pos};
 ghost use Rattle.compress.specs.Refusals.{refusal_number};
 ghost use Rattle.periodic.specs.Unwrap.{said_unwrapped};
@@ -10,7 +12,7 @@ use periodic::{NearestCopy, Period, Unwrapped};
 use wire_kinds::BoundaryType;
 
 // The period that a host lends, where the kind is known.
-#[derive(Drop)]
+#[derive(Clone, Copy)]
 pub enum Asked {
     Known(Period),
     Unknown(Refusal),

@@ -1,4 +1,6 @@
 // Document 01's "Join" (`connect_open_boundaries`): two open wires and one of the new wires become one wire.
+#![tactic(auto)]
+
 ghost use Rattle.std.specs.Prelude.{◌≡◌, ◌≤◌, ◌<◌, length, take};
 ghost use Rattle.compress.specs.Rows.{edge_at};
 ghost use Rattle.compress.specs.Wires.{wires_of};

@@ -1,4 +1,6 @@
 // Document 01's "Join": two open wires and the first new wire that holds v0 become one wire, which replaces the new one.
+#![tactic(auto)]
+
 ghost use Rattle.std.specs.Prelude.{◌≡◌, ◌++◌, ◌+◌, ◌≤◌, ◌<◌, length, set, take, drop};
 ghost use Rattle.compress.specs.Rows.{edge_at};
 ghost use Rattle.compress.specs.Wires.{wires_of};
@@ -11,7 +13,7 @@ ghost use Rattle.joined.specs.Steps.{Joinable, replaced_in};
 use compress::Refusal;
 
 // The answer of a join: how many uses the new wires have now, "none", or why the call was turned away.
-#[derive(Drop)]
+#[derive(Clone, Copy)]
 pub enum Join {
     Joined(usize),
     NoJoin,

@@ -1,4 +1,6 @@
 // Document 01's "Join": the places of a vertex in wires, and the joined wire laid into a buffer.
+#![tactic(auto)]
+
 ghost use Rattle.std.specs.Prelude.{◌≡◌, ◌++◌, ℕ, ◌+◌, ◌*◌, ◌/◌, ◌≤◌, ◌<◌, length, get_or, take, drop};
 ghost use Rattle.compress.specs.Rows.{edge_at};
 ghost use Rattle.compress.specs.Wires.{total, wires_of};

@@ -1,4 +1,6 @@
 // The lists of uses by vertex: "uses go to their front vertex's list". The front and the back of a use, and the two tables that hold the lists.
+#![tactic(auto)]
+
 ghost use Rattle.std.specs.Prelude.{◌≡◌, ℕ, ◌+◌, ◌-◌, ◌/◌, ◌≤◌, ◌<◌, length, get_or, set};
 ghost use Rattle.lists.specs.Ends.{HasEnds, end_of, front_of, back_of};
 ghost use Rattle.lists.specs.Lists.{entry_of, heads_after, nexts_after, Tables, Lowest};

@@ -1,9 +1,11 @@
 // Document 01's "Non-simple wire", `find_loop`: the first place of a wire whose edge number stood before.
+#![tactic(auto)]
+
 ghost use Rattle.std.specs.Prelude.{◌≡◌, ℕ, ◌+◌, ◌/◌, ◌≤◌, ◌<◌, length, get_or, set, drop};
 ghost use Rattle.loops.specs.Loop.{first_repeat, repeat_of, forgotten, table_after};
 
 // The earlier and the later place of an edge number that stands twice.
-#[derive(Drop)]
+#[derive(Clone, Copy)]
 pub enum Loop {
     Pair(usize, usize),
     Nothing,

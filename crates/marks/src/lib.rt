@@ -1,4 +1,6 @@
 // The marks of a split: edges that occur twice in the face's wires, and the new ones. The walk over the uses to be rebuilt and those of the new edges.
+#![tactic(auto)]
+
 ghost use Rattle.std.specs.Prelude.{◌≡◌, ℕ, ◌+◌, ◌*◌, ◌/◌, ◌≤◌, ◌<◌, length, get_or};
 ghost use Rattle.std.proofs.lemmas.List.Edits.{sets};
 ghost use Rattle.compress.specs.Records.{pick};

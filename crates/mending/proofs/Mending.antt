@@ -9,7 +9,7 @@ use native.Mathlib.Decide.{dec_le}
 use lib.ListN.{length, get_or, take, drop}
 use lib.Seq.{length-take-le, take_all}
 use Rattle.compress.specs.Shell.{uses_fit}
-use Rattle.compress.specs.Wires.{total, wires_of, uses_of, lengths_of, over}
+use Rattle.compress.specs.Wires.{total, wires_of, uses_of, lengths_of}
 use Rattle.compress.proofs.Room.{both, uses_room}
 use Rattle.checks.specs.Causes.{wires_cause}
 use Rattle.checks.proofs.Accepted.{wires_accepted}

@@ -1,4 +1,6 @@
 // Wires mended after their edges were cut: `replace_edges` of document 001, and all wires of a call mended in place where there is room.
+#![tactic(auto)]
+
 ghost use Rattle.std.specs.Prelude.{◌≡◌, ℕ, ◌+◌, ◌*◌, ◌/◌, ◌≤◌, ◌<◌, length, get_or, take};
 ghost use Rattle.std.proofs.lemmas.List.Edits.{sets};
 ghost use Rattle.compress.specs.Wires.{wires_of};
@@ -8,7 +10,7 @@ ghost use Rattle.mending.specs.Replace.{replace_use, replace_edges, replace_wire
 ghost use Rattle.mending.specs.Steps.{Replaceable, Mended, InPlace};
 
 // What stands in a wire for one use: the use, or it and that of the edge cut off, in their order.
-#[derive(Drop)]
+#[derive(Clone, Copy)]
 enum Parts {
     One(u32),
     Two(u32, u32),
@@ -94,7 +96,7 @@ fn replace_wires(
 // ---- in place
 
 // What the mending of a call's wires comes to: how many uses they have, and whether there was room, so that they were written.
-#[derive(Drop)]
+#[derive(Clone, Copy)]
 pub struct Mend {
     pub fits: bool,
     pub uses: usize,

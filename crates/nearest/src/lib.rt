@@ -1,4 +1,6 @@
 // Document 000, `split_closed_faces.rs`: the nearest ends of two stretches, over tables and stretches that were checked.
+#![tactic(auto)]
+
 ghost use Rattle.std.specs.Prelude.{◌≡◌, ℕ, ◌+◌, ◌*◌, ◌/◌, ◌≤◌, ◌<◌, length, get_or, drop};
 ghost use Rattle.compress.specs.Choice.{smaller};
 ghost use Rattle.nearest.specs.Ends.{point_of, point_gap, away_at, gap_of, nearest_front, nearest_ends, said_ends};
@@ -8,7 +10,7 @@ ghost use Rattle.compress.specs.Rows.{edge_at, vertex_at};
 use compress::{Refusal, Vertex};
 
 // A point in space.
-#[derive(Drop)]
+#[derive(Clone, Copy)]
 struct Xyz {
     x: f64,
     y: f64,
@@ -16,7 +18,7 @@ struct Xyz {
 }
 
 // The answer of nearest ends: a vertex of the first stretch and one of the second, or "none".
-#[derive(Drop)]
+#[derive(Clone, Copy)]
 pub enum Ends {
     Between(u32, u32),
     NoEnds,
@@ -51,7 +53,7 @@ fn point_at(numbers: &[u32], floats: &[f64], v: u32) -> Xyz
 }
 
 // A vertex, with its squared distance from a point.
-#[derive(Drop)]
+#[derive(Clone, Copy)]
 struct Away {
     vertex: u32,
     gap: f64,

@@ -1,4 +1,6 @@
 // Document 01's "Non-simple wire": the search over all wires for one that uses an edge twice, and where it is divided.
+#![tactic(auto)]
+
 ghost use Rattle.std.specs.Prelude.{◌≡◌, ℕ, ◌-◌, ◌/◌, ◌≤◌, ◌<◌, length, get_or, take};
 ghost use Rattle.compress.specs.Rows.{edge_at, vertex_at};
 ghost use Rattle.compress.specs.Wires.{wires_of};

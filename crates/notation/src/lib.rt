@@ -1,4 +1,6 @@
 // Writes numbers, uses and wires in the notation of document 01, and counts uses.
+#![tactic(auto)]
+
 ghost use Rattle.std.specs.Prelude.{◌≡◌, ◌⊎◌, ◌+◌, ◌≤◌, ◌<◌, eqb, length, get_or, take};
 ghost use Rattle.compress.specs.Records.{pick};
 ghost use Rattle.lists.specs.Members.{count};

@@ -1,5 +1,5 @@
 -- One cut (`cut_edge_by_intersections`, `insert_new_edges`) of a shell. Definitions only.
-use Rattle.std.specs.Prelude.{List, [], ◌∷◌, ◌++◌, ℕ, ◌+◌, length, set, replicate}
+use Rattle.std.specs.Prelude.{List, [], ◌∷◌, ◌++◌, ℕ, length, set, replicate}
 use Rattle.compress.specs.declared.Edge.{Edge}
 use Rattle.compress.specs.declared.Vertex.TheVariants.{Given}
 use Rattle.compress.specs.Shell.{Shell}

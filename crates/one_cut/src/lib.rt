@@ -1,5 +1,7 @@
 // Document 01's "One cut" (`cut_edge_by_intersections`, `insert_new_edges`): one edge is cut at a parameter, by a given point, and the wires
 // are mended.
+#![tactic(auto)]
+
 ghost use Rattle.std.specs.Prelude.{◌≡◌, ◌≤◌, ◌<◌, leb, length, get_or, set, take, replicate};
 ghost use Rattle.std.specs.Float.{nan};
 ghost use Rattle.compress.specs.Wires.{wires_of};
@@ -17,7 +19,7 @@ use cutting::Split;
 use mending::Mend;
 
 // What a call comes to after its checks: an answer that changes nothing, or one cut that is to be made.
-#[derive(Drop)]
+#[derive(Clone, Copy)]
 enum Asked {
     Answer(Split),
     Once(Cut),

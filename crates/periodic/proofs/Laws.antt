@@ -13,8 +13,8 @@ use Rattle.floats.specs.Value.{Held}
 use Rattle.floats.specs.Rounds.{neg_held}
 use Rattle.floats.specs.Bounds.{Under, weaken, add_under, sub_under, mul_under}
 use Rattle.floats.specs.Mono.{neg_mag}
-use Rattle.floats.specs.Sized.{Sized, sized_under}
-use Rattle.floats.specs.Distance.{distance2_uv_under}
+use Rattle.floats.proofs.Sized.{Sized, sized_under}
+use Rattle.floats.proofs.Distance.{distance2_uv_under}
 use Rattle.compress.specs.declared.Uv.{Uv}
 use Rattle.compress.specs.Records.{pick}
 use Rattle.periodic.specs.declared.Period.{Period}

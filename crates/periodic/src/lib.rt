@@ -1,4 +1,6 @@
 // Document 000, `split_closed_faces.rs`: unwrapping and nearest copy.
+#![tactic(auto)]
+
 ghost use Rattle.std.specs.Prelude.{◌≡◌, get_or};
 ghost use mathlib.Core.List.{foldl};
 ghost use Rattle.std.specs.Float.{nan};
@@ -9,7 +11,7 @@ ghost use Rattle.periodic.specs.Copies.{first_shift, later_shifts, shifts_of, sh
 use compress::{Refusal, Uv};
 
 // A period: absent, or a number above 0.
-#[derive(Drop)]
+#[derive(Clone, Copy)]
 pub enum Period {
     Absent,
     Every(f64),
@@ -18,7 +20,7 @@ pub enum Period {
 // ---- unwrapping
 
 // The answer of unwrapping.
-#[derive(Drop)]
+#[derive(Clone, Copy)]
 pub enum Unwrapped {
     Number(f64),
     Refused(Refusal),
@@ -102,7 +104,7 @@ pub fn get_mindiff(u: f64, u0: f64, period: Period) -> Unwrapped
 // ---- nearest copy
 
 // The answer of the nearest copy.
-#[derive(Drop)]
+#[derive(Clone, Copy)]
 pub enum NearestCopy {
     At(Uv),
     NoCopy(Refusal),

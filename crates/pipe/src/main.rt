@@ -1,9 +1,11 @@
 // The whole way of a burner pipe: from the shell as a drawing office sends it to the contours that the torch follows. Each step is
 // a call of the port, and what it answers is written in the notation of document 01.
-use libc::STDOUT_FILENO;
+#![tactic(auto)]
+
 use pipe_shell::{Shell, writing};
 
-const OUT: i32 = STDOUT_FILENO;
+// The descriptor of standard output.
+const OUT: i32 = 1;
 
 // The wires of the two rims with the seam between them, as one wire.
 fn joined(cut: Shell) -> Shell {

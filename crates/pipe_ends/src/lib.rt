@@ -1,5 +1,7 @@
 // The steps of the healing that find where the face is to be divided, each a call of the port: the sorting of wires, the nearest ends of the
 // rims, and the search for a wire that uses an edge twice. What a call answers is written.
+#![tactic(auto)]
+
 ghost use Rattle.std.specs.Prelude.{◌≡◌, false};
 
 use nearest::Ends;
@@ -7,7 +9,7 @@ use pipe_shell::{Shell, writing};
 use wire_kinds::Sorted;
 
 // Two vertices, if there are any.
-#[derive(Drop)]
+#[derive(Clone, Copy)]
 pub struct Divisor {
     pub v0: u32,
     pub v1: u32,

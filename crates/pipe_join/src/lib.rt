@@ -1,4 +1,6 @@
 // The join of the two rims with the seam. What the call answers is written, with the wires, and the shell comes back.
+#![tactic(auto)]
+
 ghost use Rattle.std.specs.Prelude.{◌≡◌};
 
 use joined::Join;

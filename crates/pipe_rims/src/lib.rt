@@ -1,5 +1,7 @@
 // The first step of the healing, the closed-edge pass: the rims are cut. What the call answers is written, with the shell as the step leaves
 // it, which comes back.
+#![tactic(auto)]
+
 ghost use Rattle.std.specs.Prelude.{◌≡◌};
 
 use cutting::Split;

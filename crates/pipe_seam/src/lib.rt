@@ -1,5 +1,7 @@
 // The two splits of the healing: with the seam between the rims, and along the vertices of the search. What the call answers is written, with
 // the new edges and the wires, and the shell comes back.
+#![tactic(auto)]
+
 ghost use Rattle.std.specs.Prelude.{◌≡◌};
 
 use periodic::{NearestCopy, Period};

@@ -1,4 +1,6 @@
 // The shell of the burner pipe, and what a host would supply for it. Radius 1, height 4.
+#![tactic(auto)]
+
 pub mod writing;
 
 ghost use Rattle.std.specs.Prelude.{◌≡◌, true, false, ℕ, ◌+◌, ◌≤◌, ◌<◌, get_or};
@@ -13,7 +15,7 @@ const HALF_TURN: f64 = 3.141592653589793;
 const HEIGHT: f64 = 4.0;
 
 // The vertices, with room for those of the cut rims.
-#[derive(Drop)]
+#[derive(Clone, Copy)]
 pub struct Vertices {
     pub numbers: [u32; 12],
     pub floats: [f64; 28],
@@ -21,7 +23,7 @@ pub struct Vertices {
 }
 
 // The edges, with room for the halves of the rims and for two seams.
-#[derive(Drop)]
+#[derive(Clone, Copy)]
 pub struct Edges {
     pub numbers: [u32; 24],
     pub floats: [f64; 36],
@@ -29,7 +31,7 @@ pub struct Edges {
 }
 
 // Wires, with room for every use of the last step.
-#[derive(Drop)]
+#[derive(Clone, Copy)]
 pub struct Wires {
     pub uses: [u32; 8],
     pub lengths: [u32; 8],
@@ -37,7 +39,7 @@ pub struct Wires {
 }
 
 // The whole shell. `is_whole`: no step was turned away.
-#[derive(Drop)]
+#[derive(Clone, Copy)]
 pub struct Shell {
     pub vertices: Vertices,
     pub edges: Edges,

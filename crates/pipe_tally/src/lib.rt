@@ -1,4 +1,6 @@
 // The tally of uses in the contours.
+#![tactic(auto)]
+
 use pipe_shell::{Shell, Wires};
 
 // How many uses the six edges of the table have, both directions.

@@ -1,4 +1,6 @@
 // Cause 7 of document 01's table, "any vertex lent .. is pending", and with it causes 1 to 5 of the tables that a call reads points from.
+#![tactic(auto)]
+
 ghost use Rattle.std.specs.Prelude.{◌≡◌, ◌+◌, ◌*◌, ◌≤◌, eqb, length};
 ghost use Rattle.checks.specs.Causes.{lower_of, lowest_of, vertex_row_cause, vertices_cause, pending_row_cause, pending_cause};
 ghost use Rattle.points.specs.Tables.{tables_cause};

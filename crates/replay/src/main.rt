@@ -4,6 +4,8 @@
 // call was handed, and what it answered and left. The length of a buffer stands before its cells; in the records of
 // split_closed_edges the lengths of all six stand before the cells of all. The number 0 ends the list. Behind it stands a second
 // list, of altered records: in each, one word of what the call answered and left is another, so none of them is the same.
+#![tactic(auto)]
+
 ghost use Rattle.stored.specs.Compared.{Remembers};
 
 use replay_numbers::sorting;

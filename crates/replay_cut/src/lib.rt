@@ -1,4 +1,6 @@
 // Replays one stored call of cut_edge_by_intersections.
+#![tactic(auto)]
+
 ghost use Rattle.std.specs.Prelude.{◌≡◌};
 ghost use Rattle.stored.specs.Compared.{Remembers};
 ghost use Rattle.stored_cells.specs.Fits.{FloatsFit};
@@ -6,13 +8,13 @@ ghost use Rattle.stored_records.specs.Fits.{ShellFits};
 
 use answers::{Answer, ShellLeft};
 use cutting::Split;
+use records::{Counts, Shell};
 use stored::Place;
 use stored_cells::Floats;
-use stored_records::{answers, tables};
-use tables::{Counts, Shell};
+use stored_records::{answers, tables as records};
 
 // Which edge is cut, how many cuts the call was told, and the place past them.
-#[derive(Drop)]
+#[derive(Clone, Copy)]
 struct Asked {
     edge: u32,
     cuts: usize,
@@ -76,7 +78,7 @@ fn cut(c: Counts, wires: usize, a: Asked, s: Shell, cuts: Floats) -> ShellLeft
         a.edge,
         a.cuts,
     );
-    let shell = tables::shell_left(
+    let shell = records::shell_left(
         s,
         vertex_numbers,
         vertex_floats,
@@ -95,10 +97,10 @@ fn cut(c: Counts, wires: usize, a: Asked, s: Shell, cuts: Floats) -> ShellLeft
 pub fn replay_cut(buf: &[u8], p: Place) -> Place
     ensures { Remembers p result }
 {
-    let c = tables::read_counts(buf, p);
+    let c = records::read_counts(buf, p);
     let wires = stored::next(buf, c.place);
     let a = read_asked(buf, wires.place);
-    let s = tables::read_shell(buf, a.place);
+    let s = records::read_shell(buf, a.place);
     let n = stored_cells::read_floats(buf, s.place);
     let left = cut(c, wires.bits as usize, a, s.shell, n.floats);
     answers::compare_shell_left(buf, n.place, left)

@@ -1,16 +1,18 @@
 // Replays one stored call of connect_open_boundaries.
+#![tactic(auto)]
+
 ghost use Rattle.std.specs.Prelude.{◌≡◌};
 ghost use Rattle.stored.specs.Compared.{Remembers};
 ghost use Rattle.stored_records.specs.Fits.{PairFits, TableFits};
 
 use answers::{Answer, Left};
 use joined::Join;
+use records::{Counts, Pair, Table};
 use stored::Place;
-use stored_records::{answers, tables};
-use tables::{Counts, Pair, Table};
+use stored_records::{answers, tables as records};
 
 // How many uses the two open wires have, how many new wires there are, the two vertices, and the place past them.
-#[derive(Drop)]
+#[derive(Clone, Copy)]
 struct Ends {
     first: usize,
     second: usize,
@@ -79,7 +81,7 @@ fn joined(c: Counts, a: Ends, e: Table, o: Pair, w: Pair) -> Left
         a.v0,
         a.v1,
     );
-    let buffers = tables::pair_left(w, uses, lengths);
+    let buffers = records::pair_left(w, uses, lengths);
     Left {
         answer: answer_of(answer),
         buffers,
@@ -90,11 +92,11 @@ fn joined(c: Counts, a: Ends, e: Table, o: Pair, w: Pair) -> Left
 pub fn replay_join(buf: &[u8], p: Place) -> Place
     ensures { Remembers p result }
 {
-    let c = tables::read_counts(buf, p);
+    let c = records::read_counts(buf, p);
     let a = read_ends(buf, c.place);
-    let e = tables::read_table(buf, a.place);
-    let o = tables::read_pair(buf, e.place);
-    let w = tables::read_pair(buf, o.place);
+    let e = records::read_table(buf, a.place);
+    let o = records::read_pair(buf, e.place);
+    let w = records::read_pair(buf, o.place);
     let left = joined(c, a, e.table, o.pair, w.pair);
     answers::compare_left(buf, w.place, left)
 }

@@ -1,4 +1,6 @@
 // Replays one stored call of those on points and wires alone: get_mindiff, nearest_copy, boundary_type and sort_wires.
+#![tactic(auto)]
+
 pub mod sorting;
 
 ghost use Rattle.std.specs.Prelude.{◌≡◌};
@@ -13,14 +15,14 @@ use wire_kinds::{BoundaryType, WireKind};
 const MALFORMED: u32 = 1;
 
 // A point from the list, and the place past it.
-#[derive(Drop)]
+#[derive(Clone, Copy)]
 struct Point {
     uv: Uv,
     place: Place,
 }
 
 // A period from the list, whether its kind is known, and the place past it.
-#[derive(Drop)]
+#[derive(Clone, Copy)]
 struct Given {
     period: Period,
     is_known: bool,
@@ -28,7 +30,7 @@ struct Given {
 }
 
 // The answer as the list has it: 0 with a point, or the number of the refusal with zeros. A number alone stands in u.
-#[derive(Drop)]
+#[derive(Clone, Copy)]
 struct Moved {
     number: u64,
     u: f64,
@@ -36,7 +38,7 @@ struct Moved {
 }
 
 // The answer as the list has it: 0 with the kind of wire, or the number of the refusal with 0.
-#[derive(Drop)]
+#[derive(Clone, Copy)]
 struct Kind {
     number: u64,
     kind: u64,

@@ -1,13 +1,15 @@
 // Replays one stored call of split_closed_edges.
+#![tactic(auto)]
+
 ghost use Rattle.std.specs.Prelude.{◌≡◌, ◌≤◌};
 ghost use Rattle.stored.specs.Compared.{Remembers};
 ghost use Rattle.stored_records.specs.Fits.{PairFits, ShellFits, TableFits};
 
 use answers::{Answer, ShellLeft};
 use cutting::Split;
+use records::{Counts, Pair, PairRead, Shell, ShellRead, Table, TableRead};
 use stored::Place;
-use stored_records::{answers, tables};
-use tables::{Counts, Pair, PairRead, Shell, ShellRead, Table, TableRead};
+use stored_records::{answers, tables as records};
 
 fn answer_of(s: Split) -> Answer {
     match s {
@@ -21,7 +23,7 @@ fn answer_of(s: Split) -> Answer {
 }
 
 // The lengths of two buffers, and the place past them.
-#[derive(Drop)]
+#[derive(Clone, Copy)]
 struct Lengths {
     first: usize,
     second: usize,
@@ -119,7 +121,7 @@ fn pass(c: Counts, wires: usize, s: Shell) -> ShellLeft
         c.edges,
         wires,
     );
-    let shell = tables::shell_left(
+    let shell = records::shell_left(
         s,
         vertex_numbers,
         vertex_floats,
@@ -138,7 +140,7 @@ fn pass(c: Counts, wires: usize, s: Shell) -> ShellLeft
 pub fn replay_pass(buf: &[u8], p: Place) -> Place
     ensures { Remembers p result }
 {
-    let c = tables::read_counts(buf, p);
+    let c = records::read_counts(buf, p);
     let wires = stored::next(buf, c.place);
     let s = read_shell(buf, wires.place);
     answers::compare_shell_left(buf, s.place, pass(c, wires.bits as usize, s.shell))

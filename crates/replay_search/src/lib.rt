@@ -1,16 +1,18 @@
 // Replays one stored call of those that answer with two vertices: nearest_correction and find_non_simple_wire_divisor.
+#![tactic(auto)]
+
 ghost use Rattle.std.specs.Prelude.{◌≡◌};
 ghost use Rattle.stored.specs.Compared.{Remembers};
 ghost use Rattle.stored_records.specs.Fits.{ShellFits};
 
 use answers::Answer;
 use nearest::Ends;
+use records::{Counts, Shell};
 use stored::Place;
-use stored_records::{answers, tables};
-use tables::{Counts, Shell};
+use stored_records::{answers, tables as records};
 
 // How many uses the two stretches of nearest_correction have, from which vertex it starts, and the place past them.
-#[derive(Drop)]
+#[derive(Clone, Copy)]
 struct Start {
     first: usize,
     second: usize,
@@ -62,9 +64,9 @@ fn divisor(c: Counts, wires: usize, s: Shell) -> Answer
 pub fn replay_divisor(buf: &[u8], p: Place) -> Place
     ensures { Remembers p result }
 {
-    let c = tables::read_counts(buf, p);
+    let c = records::read_counts(buf, p);
     let wires = stored::next(buf, c.place);
-    let s = tables::read_shell(buf, wires.place);
+    let s = records::read_shell(buf, wires.place);
     let found = divisor(c, wires.bits as usize, s.shell);
     answers::compare_two(buf, s.place, found)
 }
@@ -122,9 +124,9 @@ fn correction(c: Counts, a: Start, s: Shell) -> Answer
 pub fn replay_correction(buf: &[u8], p: Place) -> Place
     ensures { Remembers p result }
 {
-    let c = tables::read_counts(buf, p);
+    let c = records::read_counts(buf, p);
     let a = read_start(buf, c.place);
-    let s = tables::read_shell(buf, a.place);
+    let s = records::read_shell(buf, a.place);
     let found = correction(c, a, s.shell);
     answers::compare_two(buf, s.place, found)
 }

@@ -1,17 +1,19 @@
 // Replays one stored call of split_boundaries_by_divisor.
+#![tactic(auto)]
+
 ghost use Rattle.std.specs.Prelude.{◌≡◌};
 ghost use Rattle.stored.specs.Compared.{Remembers};
 ghost use Rattle.stored_records.specs.Fits.{PairFits, TableFits};
 
 use answers::Answer;
+use records::{Counts, Pair, Table};
 use split::Boundaries;
 use stored::Place;
-use stored_records::{answers, tables};
-use tables::{Counts, Pair, Table};
+use stored_records::{answers, tables as records};
 
 // How many wires of the face, wires to be rebuilt and vertices on the divisor the call was told, the number of the surface, and the
 // place past them.
-#[derive(Drop)]
+#[derive(Clone, Copy)]
 struct Asked {
     face: usize,
     rebuilt: usize,
@@ -21,7 +23,7 @@ struct Asked {
 }
 
 // What the call answered, and the edges and wires as it left them.
-#[derive(Drop)]
+#[derive(Clone, Copy)]
 struct Left {
     answer: Answer,
     edges: Table,
@@ -97,8 +99,8 @@ fn divided(c: Counts, a: Asked, e: Table, f: Pair, r: Pair, d: Table, w: Pair) -
         a.divisor,
         a.surface,
     );
-    let edges = tables::table_left(e, edge_numbers, edge_floats);
-    let wires = tables::pair_left(w, uses, lengths);
+    let edges = records::table_left(e, edge_numbers, edge_floats);
+    let wires = records::pair_left(w, uses, lengths);
     Left {
         answer: answer_of(answer),
         edges,
@@ -112,21 +114,21 @@ fn compare(buf: &[u8], p: Place, left: Left) -> Place
     ensures { Remembers p result }
 {
     let told = answers::compare_three(buf, p, left.answer);
-    let edges = tables::compare_table(buf, told, left.edges);
-    tables::compare_pair(buf, edges, left.wires)
+    let edges = records::compare_table(buf, told, left.edges);
+    records::compare_pair(buf, edges, left.wires)
 }
 
 // Replays split_boundaries_by_divisor. The place comes back past the record.
 pub fn replay_split(buf: &[u8], p: Place) -> Place
     ensures { Remembers p result }
 {
-    let c = tables::read_counts(buf, p);
+    let c = records::read_counts(buf, p);
     let a = read_asked(buf, c.place);
-    let e = tables::read_table(buf, a.place);
-    let f = tables::read_pair(buf, e.place);
-    let r = tables::read_pair(buf, f.place);
-    let d = tables::read_table(buf, r.place);
-    let w = tables::read_pair(buf, d.place);
+    let e = records::read_table(buf, a.place);
+    let f = records::read_pair(buf, e.place);
+    let r = records::read_pair(buf, f.place);
+    let d = records::read_table(buf, r.place);
+    let w = records::read_pair(buf, d.place);
     let left = divided(c, a, e.table, f.pair, r.pair, d.table, w.pair);
     compare(buf, w.place, left)
 }

@@ -1,8 +1,12 @@
 // How far a replay is: the place in the lists, and how many calls answered the same.
+#![tactic(auto)]
+
 ghost use Rattle.std.specs.Prelude.{◌≡◌, true, false, not, ◌+◌, ◌<◌};
 
-use libc::STDOUT_FILENO;
 use stored::Place;
+
+// The descriptor of standard output.
+const STDOUT_FILENO: i32 = 1;
 
 // How many tallies there are: one for all altered records, and one for each kind of call, in the place of its number.
 const TALLIES: usize = 11;
@@ -11,7 +15,7 @@ const TALLIES: usize = 11;
 const ALTERED: usize = 0;
 
 // How many calls were replayed, and how many of them answered and left the same.
-#[derive(Drop)]
+#[derive(Clone, Copy)]
 pub struct Tally {
     pub calls: u64,
     pub same: u64,
@@ -19,7 +23,7 @@ pub struct Tally {
 
 // How far the replay is: the place in the lists, the number of the next record from 1, the tallies, whether the records are the
 // altered ones, and whether there is more to do.
-#[derive(Drop)]
+#[derive(Clone, Copy)]
 pub struct Run {
     pub place: Place,
     pub record: u64,

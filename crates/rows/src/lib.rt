@@ -1,4 +1,6 @@
 // Records written to the cells of their rows in lent slices, room for a result, and runs of numbers.
+#![tactic(auto)]
+
 ghost use Rattle.std.specs.Prelude.{◌≡◌, ◌++◌, ◌+◌, ◌*◌, ◌≤◌, length, take, drop};
 ghost use Rattle.std.proofs.lemmas.List.Edits.{sets};
 ghost use Rattle.compress.specs.Records.{kind_of, number_of};

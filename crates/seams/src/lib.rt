@@ -1,4 +1,6 @@
 // The vertices on the divisor of a split with their causes, and the seams that they make.
+#![tactic(auto)]
+
 ghost use Rattle.std.specs.Prelude.{◌≡◌, ℕ, ◌+◌, ◌*◌, ◌≤◌, ◌<◌, length, get_or, set, replicate};
 ghost use Rattle.std.specs.Float.{nan};
 ghost use Rattle.compress.specs.Layout.{store_from, rows};

@@ -1,4 +1,6 @@
 // Document 01's "Split" (`split_boundaries_by_divisor`, from `duplicated_edges` on): wires are rebuilt along a divisor.
+#![tactic(auto)]
+
 ghost use Rattle.std.specs.Prelude.{◌≡◌, ◌+◌, ◌*◌, length};
 ghost use Rattle.compress.specs.Layout.{rows};
 ghost use Rattle.seams.specs.Seams.{stop_at, seams_of};
@@ -13,7 +15,7 @@ use compress::Refusal;
 use walk::Walked;
 
 // The answer of a split: how many wires, uses and edges there are now, or why the call was turned away.
-#[derive(Drop)]
+#[derive(Clone, Copy)]
 pub enum Boundaries {
     Split {
         wires: usize,

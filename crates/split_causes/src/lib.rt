@@ -1,4 +1,6 @@
 // The causes of a split that are found before the walk.
+#![tactic(auto)]
+
 ghost use Rattle.std.specs.Prelude.{◌≡◌, List, ℕ};
 ghost use Rattle.split_causes.specs.Causes.{split_wires_cause, room_cause, lent_split, split_input_cause, split_cause};
 

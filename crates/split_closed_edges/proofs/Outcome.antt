@@ -14,7 +14,6 @@ use Rattle.compress.specs.Records.{closed, pick}
 use Rattle.compress.specs.Layout.{rows, store}
 use Rattle.compress.specs.Refusals.{refusal_of}
 use Rattle.compress.specs.Rows.{edge_at, vertex_at, edge_number_layout, edge_float_layout, vertex_number_layout, vertex_float_layout}
-use Rattle.compress.specs.Said.{result}
 use Rattle.compress.specs.Shell.{Shell, load, vertices_fit, edges_fit}
 use Rattle.compress.specs.Wires.{wires_of}
 use Rattle.compress.proofs.Layouts.{length_rows}

@@ -1,4 +1,6 @@
 // Document 001, `split_closed_edges.rs`: every edge with equal ends is cut at the middle of its curve, and the wires are mended.
+#![tactic(auto)]
+
 ghost use Rattle.std.specs.Prelude.{◌≡◌, ◌*◌, ◌≤◌, length};
 ghost use Rattle.checks.specs.Causes.{wires_cause};
 ghost use Rattle.cutting.specs.Contract.{lent_of, leaves, input_cause};
@@ -10,7 +12,7 @@ use cutting::Split;
 
 // What the mending of the wires comes to: how many edges are closed, how many uses the wires have, and whether there was room, so that they
 // were written.
-#[derive(Drop)]
+#[derive(Clone, Copy)]
 struct Closing {
     cuts: usize,
     fits: bool,

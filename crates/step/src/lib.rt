@@ -1,11 +1,13 @@
 // One step of the walk: its arrival at a vertex, and the use that is taken there.
+#![tactic(auto)]
+
 ghost use Rattle.std.specs.Prelude.{◌≡◌, ℕ, ◌/◌, ◌≤◌, ◌<◌, length, get_or};
 ghost use Rattle.lists.specs.Ends.{marked_of};
 ghost use Rattle.lists.specs.Lists.{Tables};
 ghost use Rattle.step.specs.Arrival.{exactly_one, Went, cause_of, use_of};
 
 // What the arrival at a vertex comes to: the use that is taken there, or why the walk stops.
-#[derive(Drop)]
+#[derive(Clone, Copy)]
 pub enum Step {
     Use(u32),
     DeadEnd,

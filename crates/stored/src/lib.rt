@@ -1,8 +1,11 @@
 // The stored list of answers of the Rust library, read from standard input a word at a time and compared.
+#![tactic(auto)]
+
 ghost use Rattle.std.specs.Prelude.{◌≡◌, true, false, ◌&&◌, ◌+◌, ◌*◌, ◌≤◌, eqb, length, get_or};
 ghost use Rattle.stored.specs.Compared.{Moved, Remembers, Tested, half_at, word_at, word_before};
 
-use libc::STDIN_FILENO;
+// The descriptor of standard input.
+const STDIN_FILENO: i32 = 0;
 
 // The last place of a word in the buffer that is lent, which has 65536 bytes.
 const LAST: usize = 65528;
@@ -15,7 +18,7 @@ const RECORD: usize = 2048;
 
 // A place in the list: where in the buffer the next word stands, how many words are left there, whether all of the list that
 // was read was whole, and whether all that was compared in this record was the same.
-#[derive(Drop)]
+#[derive(Clone, Copy)]
 pub struct Place {
     pub at: usize,
     pub left: usize,
@@ -24,14 +27,14 @@ pub struct Place {
 }
 
 // A word, and the place past it.
-#[derive(Drop)]
+#[derive(Clone, Copy)]
 pub struct Word {
     pub bits: u64,
     pub place: Place,
 }
 
 // The length of a buffer, and the place past it.
-#[derive(Drop)]
+#[derive(Clone, Copy)]
 pub struct Length {
     pub count: usize,
     pub place: Place,

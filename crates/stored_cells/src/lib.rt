@@ -1,4 +1,6 @@
 // Numbers, floats and buffers of them: read from the list, and compared with what stands there.
+#![tactic(auto)]
+
 ghost use Rattle.std.specs.Prelude.{◌≡◌, ◌≤◌};
 ghost use Rattle.std.specs.Float.{binary64};
 ghost use Rattle.std.specs.Float.Ieee.{nan_bits};
@@ -9,42 +11,42 @@ ghost use Rattle.stored_cells.specs.Floats.{float_of, has_pattern};
 use stored::{MOST, Place};
 
 // A number of 32 bits from the list, and the place past it.
-#[derive(Drop)]
+#[derive(Clone, Copy)]
 pub struct Number {
     pub value: u32,
     pub place: Place,
 }
 
 // A float from the list, and the place past it.
-#[derive(Drop)]
+#[derive(Clone, Copy)]
 pub struct Real {
     pub value: f64,
     pub place: Place,
 }
 
 // A buffer of numbers: the first `count` cells.
-#[derive(Drop)]
+#[derive(Clone, Copy)]
 pub struct Numbers {
     pub cells: [u32; MOST],
     pub count: usize,
 }
 
 // A buffer of floats: the first `count` cells.
-#[derive(Drop)]
+#[derive(Clone, Copy)]
 pub struct Floats {
     pub cells: [f64; MOST],
     pub count: usize,
 }
 
 // A buffer of numbers from the list, and the place past it.
-#[derive(Drop)]
+#[derive(Clone, Copy)]
 pub struct NumbersRead {
     pub numbers: Numbers,
     pub place: Place,
 }
 
 // A buffer of floats from the list, and the place past it.
-#[derive(Drop)]
+#[derive(Clone, Copy)]
 pub struct FloatsRead {
     pub floats: Floats,
     pub place: Place,

@@ -13,7 +13,7 @@ use tables::{Pair, Shell};
 const NONE: u64 = u64::MAX;
 
 // 0 with up to three values, or "none" or the number of the refusal with zeros.
-#[derive(Drop)]
+#[derive(Clone, Copy)]
 pub struct Answer {
     pub number: u64,
     pub first: u64,
@@ -22,14 +22,14 @@ pub struct Answer {
 }
 
 // What a call answered, and the two buffers of numbers that were lent to be written to, as the call left them.
-#[derive(Drop)]
+#[derive(Clone, Copy)]
 pub struct Left {
     pub answer: Answer,
     pub buffers: Pair,
 }
 
 // What a call answered, and the shell as the call left it.
-#[derive(Drop)]
+#[derive(Clone, Copy)]
 pub struct ShellLeft {
     pub answer: Answer,
     pub shell: Shell,

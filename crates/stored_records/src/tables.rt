@@ -7,21 +7,21 @@ use stored::{MOST, Place};
 use stored_cells::{Floats, Numbers};
 
 // A table of rows: its numbers, and its floats.
-#[derive(Drop)]
+#[derive(Clone, Copy)]
 pub struct Table {
     pub numbers: Numbers,
     pub floats: Floats,
 }
 
 // Two buffers of numbers, as the uses and the lengths of wires.
-#[derive(Drop)]
+#[derive(Clone, Copy)]
 pub struct Pair {
     pub first: Numbers,
     pub second: Numbers,
 }
 
 // The two tables of a shell, and its wires or two stretches of uses.
-#[derive(Drop)]
+#[derive(Clone, Copy)]
 pub struct Shell {
     pub vertices: Table,
     pub edges: Table,
@@ -29,7 +29,7 @@ pub struct Shell {
 }
 
 // How many vertices and edges a call was told, and the place past them.
-#[derive(Drop)]
+#[derive(Clone, Copy)]
 pub struct Counts {
     pub vertices: usize,
     pub edges: usize,
@@ -37,21 +37,21 @@ pub struct Counts {
 }
 
 // A table from the list, and the place past it.
-#[derive(Drop)]
+#[derive(Clone, Copy)]
 pub struct TableRead {
     pub table: Table,
     pub place: Place,
 }
 
 // Two buffers of numbers from the list, and the place past them.
-#[derive(Drop)]
+#[derive(Clone, Copy)]
 pub struct PairRead {
     pub pair: Pair,
     pub place: Place,
 }
 
 // A shell from the list, and the place past it.
-#[derive(Drop)]
+#[derive(Clone, Copy)]
 pub struct ShellRead {
     pub shell: Shell,
     pub place: Place,

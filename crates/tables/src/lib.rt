@@ -1,4 +1,6 @@
 // Causes 1 to 5 of document 01's table, for tables of edges and of vertices: every row is checked, and the lowest number wins.
+#![tactic(auto)]
+
 ghost use Rattle.std.specs.Prelude.{◌≡◌, true, ℕ, ◌+◌, ◌*◌, ◌≤◌, eqb, length, get_or};
 ghost use Rattle.std.specs.Float.{nan};
 ghost use Rattle.compress.specs.Rows.{curve_at};

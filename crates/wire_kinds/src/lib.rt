@@ -1,4 +1,6 @@
 // Document 000, `split_closed_faces.rs`: kind of wire, sorting of wires.
+#![tactic(auto)]
+
 ghost use Rattle.std.specs.Prelude.{◌≡◌, [], ◌∷◌, ◌+◌, ◌*◌, ◌≤◌, ◌<◌, length, take};
 ghost use Rattle.std.proofs.lemmas.List.Edits.{sets};
 ghost use Rattle.wire_kinds.specs.Kinds.{is_closed, boundary_type, kind_cause_of, said_kind, boundary_type_said, type_at, type_cause_at, is_open, same, is_wanted, wanted_below, sort_cause, said_sorted, unsorted, sort_wires};
@@ -10,7 +12,7 @@ use compress::{Refusal, Uv};
 // ---- kind of wire
 
 // `BoundaryType`.
-#[derive(Drop)]
+#[derive(Clone, Copy)]
 pub enum BoundaryType {
     Positive,
     Negative,
@@ -18,7 +20,7 @@ pub enum BoundaryType {
 }
 
 // The answer of the kind of wire.
-#[derive(Drop)]
+#[derive(Clone, Copy)]
 pub enum WireKind {
     Is(BoundaryType),
     NoKind(Refusal),
@@ -66,7 +68,7 @@ pub fn boundary_type(a: Uv, b: Uv, area: f64) -> WireKind
 }
 
 // The answer of the sorting of wires: how many are closed, or "none".
-#[derive(Drop)]
+#[derive(Clone, Copy)]
 pub enum Sorted {
     Two(usize),
     Nothing,

@@ -1,4 +1,6 @@
 // Wires, which are rows of uses: turning one, and copying several.
+#![tactic(auto)]
+
 ghost use Rattle.std.specs.Prelude.{◌≡◌, ◌++◌, ◌≤◌, length, take, drop};
 ghost use Rattle.compress.specs.Wires.{total};
 ghost use Rattle.wires.specs.Turn.{turned};

@@ -1,0 +1,12 @@
+use Rattle.checks.specs.Causes.{vertex_cause}
+use Rattle.checks.proofs.Lowest.{lower_same}
+use Rattle.checks.proofs.vertex.Goals as goal
+
+pub returns-in-Given : goal.returns-in-Given
+unfolding vertex_cause
+returns-in-Given c = rw c.in-Given.is c.point.ensures
+
+pub returns-in-Pending : goal.returns-in-Pending
+unfolding vertex_cause
+returns-in-Pending c =
+    rw c.in-Pending.is (lower_same c.curve.ensures c.curve_parameter.ensures c.lower.ensures)

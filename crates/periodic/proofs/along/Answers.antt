@@ -1,0 +1,4 @@
+use Rattle.periodic.proofs.along.Goals as goal
+
+pub returns : goal.returns
+returns c = rw (c.later_along.ensures, c.closer-a.ensures, c.shift.ensures, c.first_shift.ensures)

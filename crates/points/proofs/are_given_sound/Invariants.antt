@@ -1,0 +1,10 @@
+use mathlib.Core.Path.{◌≡◌}
+use Prim.Native.Nat.{◌≤◌, ◌-◌}
+use Rattle.checks.specs.Causes.{lowest_of, vertex_row_cause, pending_row_cause}
+use Rattle.points.proofs.are_given_sound.Given as goal
+
+abbrev pub invariant-loop-i : goal.invariant-loop-i
+invariant-loop-i l = (l.i ≤ l.count) × (lowest_of (vertex_row_cause l.numbers l.floats) l.i ≡ 0) × (lowest_of (pending_row_cause l.numbers) l.i ≡ 0)
+
+abbrev pub decreases-loop-i : goal.decreases-loop-i
+decreases-loop-i l = l.count - l.i

@@ -1,0 +1,12 @@
+use native.Mathlib.Omega.{arith}
+use Rattle.points.proofs.Given.{row_given, row_cause}
+use Rattle.tables.proofs.Told.{tells_no}
+use Rattle.checks.specs.Causes.{lower_of, vertex_row_cause, pending_row_cause}
+use Rattle.points.proofs.is_given_sound.Goals as goal
+
+pub returns-then-numbers-a-ne0 : goal.returns-then-numbers-a-ne0
+returns-then-numbers-a-ne0 c = let a = c.args in
+    tells_no (lower_of (vertex_row_cause a.numbers.now a.floats.now a.i) (pending_row_cause a.numbers.now a.i)) (λ z. omega (arith, c.if-numbers-a-ne0.true, row_given a.numbers.now a.floats.now a.i z))
+
+pub returns : goal.returns
+returns c = let a = c.args in rw (row_cause a.numbers.now a.floats.now a.i c.if-numbers-a-ne0.false) c.is_point_sound.ensures

@@ -1,0 +1,19 @@
+use mathlib.Core.Path.{◌≡◌}
+use native.Mathlib.Omega.{arith}
+use Rattle.checks.proofs.Sound.{no, both, span_sound, seam_sound}
+use Rattle.tables.proofs.is_curve_sound.Goals as goal
+
+pub returns-then-not-is_range_sound : goal.returns-then-not-is_range_sound
+returns-then-not-is_range_sound c = λ e. no e
+
+pub returns-then-kind-ne1 : goal.returns-then-kind-ne1
+returns-then-kind-ne1 c = λ e. no e
+
+pub returns-then-kind-eq0 : goal.returns-then-kind-eq0
+returns-then-kind-eq0 c = λ e. (omega arith, λ n. span_sound _ n _ _ _ _ c.if-kind-eq0.true (c.is_range_sound.ensures c.if-not-is_range_sound.false))
+
+pub returns : goal.returns
+returns c = λ e.
+    let k : c.args.kind ≡ 1 = c.if-kind-ne1.false in
+    let p = both c.is_uv_sound-p.result c.is_uv_sound-q.result e in
+    (omega arith, λ n. seam_sound _ n _ _ _ _ k (c.is_uv_sound-p.ensures p.0) (c.is_uv_sound-q.ensures p.1) (c.is_range_sound.ensures c.if-not-is_range_sound.false))

@@ -1,0 +1,14 @@
+use native.Mathlib.Omega.{arith}
+use Rattle.checks.proofs.Sound.{no, edge_sound}
+use Rattle.tables.proofs.is_edge_sound.Goals as goal
+
+pub returns-then-numbers-a : goal.returns-then-numbers-a
+returns-then-numbers-a c = λ e. no e
+
+pub returns-then-numbers-a-2 : goal.returns-then-numbers-a-2
+returns-then-numbers-a-2 c = λ e. no e
+
+pub returns : goal.returns
+returns c = λ e v h.
+    let a = c.args in
+    edge_sound v a.numbers.now a.floats.now a.i (omega (arith, c.if-numbers-a.false)) (omega (arith, c.if-numbers-a-2.false)) (c.is_curve_sound.ensures e)
