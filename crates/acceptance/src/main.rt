@@ -2,59 +2,14 @@
 // included, is document 01's, else `other`.
 #![tactic(auto)]
 
-ghost use Rattle.std.specs.Prelude.{◌≡◌, true, false, ℕ, ◌<◌, length, get_or};
-ghost use Rattle.std.specs.Float.{nan, binary64};
-ghost use Rattle.std.specs.Float.Ieee.{of_bits, ne};
-
-use compress::Uv;
-use joined::Join;
-use split::Boundaries;
-use wire_kinds::{BoundaryType, WireKind};
+use compress::{Refusal, Uv};
+use wire_kinds::BoundaryType;
 
 // The descriptor of standard output.
 const STDOUT_FILENO: i32 = 1;
 
-// Both hold the same numbers.
-fn is_same(a: &[u32], b: &[u32]) -> bool
-    ensures { result ≡ true → a.now ≡ b.now }
-{
-    if a.len() != b.len() {
-        return false;
-    }
-    let mut i: usize = 0;
-    while i < a.len() {
-        if a[i] != b[i] {
-            return false;
-        }
-        i += 1;
-    }
-    true
-}
-
-// Every float is zero.
-fn are_zero(floats: &[f64]) -> bool
-    ensures { result ≡ true → (k : ℕ) → k < length floats.now → ne (get_or floats.now k nan) (of_bits binary64 0) ≡ false }
-{
-    let mut i: usize = 0;
-    while i < floats.len() {
-        if floats[i] != 0.0 {
-            return false;
-        }
-        i += 1;
-    }
-    true
-}
-
 // The edges of K9: 0 = (0, 2), 1 = (0, 1), 2 = (1, 0), 3 = (2, 3), 4 = (3, 2).
 const K9: [u32; 20] = [0, 2, 0, 0, 0, 1, 0, 0, 1, 0, 0, 0, 2, 3, 0, 0, 3, 2, 0, 0];
-
-// The buffers of K14 as they were lent.
-fn is_left(numbers: &[u32], floats: &[f64], uses: &[u32], lengths: &[u32]) -> bool {
-    let a = is_same(numbers, &K9);
-    let b = is_same(uses, &[99; 8]);
-    let c = is_same(lengths, &[99; 8]);
-    a & b & c & are_zero(floats)
-}
 
 // "K14: list of one vertex: 9." K9's edges and wire, as the face and to be rebuilt; every buffer holds 99 and is left.
 fn is_k14_same() -> bool {
@@ -81,14 +36,21 @@ fn is_k14_same() -> bool {
         1,
         7,
     );
-    let Boundaries::SplitRefused(r) = answer else {
+    let Err(r) = answer else {
         return false;
     };
-    is_left(&numbers, &floats, &uses, &lengths) & (compress::refusal_number(r) == 9)
+    let tables_left = numbers == K9 && floats == [0.0; 36];
+    let wires_left = uses == [99; 8] && lengths == [99; 8];
+    u32::from(r) == 9 && tables_left && wires_left
 }
 
 // The join of K15 and K16, over K9's edges, with the new wire 0+ 0-, v0 0 and v1 2. The cells past the new wire hold 99.
-fn join_pipe(first: &[u32], second: &[u32], uses: &mut [u32], lengths: &mut [u32]) -> Join {
+fn join_pipe(
+    first: &[u32],
+    second: &[u32],
+    uses: &mut [u32],
+    lengths: &mut [u32],
+) -> Result<Option<usize>, Refusal> {
     let floats = [0.0f64; 30];
     join::connect_open_boundaries(
         &K9, &floats, first, second, uses, lengths, 4, 5, 2, 2, 1, 0, 2,
@@ -99,28 +61,20 @@ fn join_pipe(first: &[u32], second: &[u32], uses: &mut [u32], lengths: &mut [u32
 fn is_k15_same() -> bool {
     let mut uses = [0u32, 1, 99, 99, 99, 99, 99, 99];
     let mut lengths = [2u32, 99];
-    let Join::Joined(n) = join_pipe(&[2, 4], &[6, 8], &mut uses, &mut lengths) else {
-        return false;
-    };
-    let a = is_same(&uses, &[1, 2, 4, 0, 6, 8, 99, 99]);
-    let b = is_same(&lengths, &[6, 99]);
-    a & b & (n == 6)
+    let answer = join_pipe(&[2, 4], &[6, 8], &mut uses, &mut lengths);
+    answer == Ok(Some(6)) && uses == [1, 2, 4, 0, 6, 8, 99, 99] && lengths == [6, 99]
 }
 
 // "K16: open wires in the other order: none."
 fn is_k16_same() -> bool {
     let mut uses = [0u32, 1, 99, 99, 99, 99, 99, 99];
     let mut lengths = [2u32, 99];
-    let Join::NoJoin = join_pipe(&[6, 8], &[2, 4], &mut uses, &mut lengths) else {
-        return false;
-    };
-    let a = is_same(&uses, &[0, 1, 99, 99, 99, 99, 99, 99]);
-    let b = is_same(&lengths, &[2, 99]);
-    a & b
+    let answer = join_pipe(&[6, 8], &[2, 4], &mut uses, &mut lengths);
+    answer == Ok(None) && uses == [0, 1, 99, 99, 99, 99, 99, 99] && lengths == [2, 99]
 }
 
 // The kind of a wire whose ends are d apart.
-fn kind_of(d: f64, area: f64) -> WireKind {
+fn kind_of(d: f64, area: f64) -> Result<BoundaryType, Refusal> {
     let first = Uv { u: 0.0, v: 0.0 };
     let last = Uv { u: d, v: 0.0 };
     wire_kinds::boundary_type(first, last, area)
@@ -128,35 +82,17 @@ fn kind_of(d: f64, area: f64) -> WireKind {
 
 // "K17: ends 0.03125 apart are closed (0.0009765625), Positive for area 1."
 fn is_k17_same() -> bool {
-    let WireKind::Is(kind) = kind_of(0.03125, 1.0) else {
-        return false;
-    };
-    match kind {
-        BoundaryType::Positive => true,
-        _ => false,
-    }
+    kind_of(0.03125, 1.0) == Ok(BoundaryType::Positive)
 }
 
 // "K18: 0.032 apart are not (0.001024)."
 fn is_k18_same() -> bool {
-    let WireKind::Is(kind) = kind_of(0.032, 1.0) else {
-        return false;
-    };
-    match kind {
-        BoundaryType::NotClosed => true,
-        _ => false,
-    }
+    kind_of(0.032, 1.0) == Ok(BoundaryType::NotClosed)
 }
 
 // "K19: equal ends and area 0 are Negative."
 fn is_k19_same() -> bool {
-    let WireKind::Is(kind) = kind_of(0.0, 0.0) else {
-        return false;
-    };
-    match kind {
-        BoundaryType::Negative => true,
-        _ => false,
-    }
+    kind_of(0.0, 0.0) == Ok(BoundaryType::Negative)
 }
 
 // Writes the line of a case.

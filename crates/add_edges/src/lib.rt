@@ -30,14 +30,11 @@ fn add_edge(
 {
     let e = compress::edge_at(edge_numbers, edge_floats, i);
     if e.front == e.back {
-        let c = e.curve;
-        let h = cut_edge::cut_held(e, cut_edge::middle(c), n as u32);
-        let old = h.old;
-        let new = h.new;
+        let h = cut_edge::cut_held(e, cut_edge::middle(e.curve), n as u32);
         let v = cut_edge::pending(e);
         rows::put_vertex(vertex_numbers, vertex_floats, n, v);
-        rows::put_edge(edge_numbers, edge_floats, i, old);
-        rows::put_edge(edge_numbers, edge_floats, m, new);
+        rows::put_edge(edge_numbers, edge_floats, i, h.old);
+        rows::put_edge(edge_numbers, edge_floats, m, h.new);
         return true;
     }
     false
@@ -55,10 +52,9 @@ pub fn add_edges(
     requires { Addable vertices edges vertex_numbers.old vertex_floats.old edge_numbers.old edge_floats.old }
     ensures { Added vertices edges vertex_numbers.old vertex_floats.old edge_numbers.old edge_floats.old vertex_numbers.new vertex_floats.new edge_numbers.new edge_floats.new }
 {
-    let mut i: usize = 0;
     let mut n = vertices;
     let mut m = edges;
-    while i < edges {
+    for i in 0..edges {
         if add_edge(
             vertex_numbers,
             vertex_floats,
@@ -71,7 +67,6 @@ pub fn add_edges(
             n += 1;
             m += 1;
         }
-        i += 1;
     }
 }
 
@@ -86,32 +81,17 @@ fn is_closed(numbers: &[u32], i: usize) -> bool
     numbers[a] == numbers[a + 1]
 }
 
-fn number_if(cut: bool, m: u32) -> u32
-    ensures { result ≡ pick cut m 0 }
-{
-    if cut { m } else { 0 }
-}
-
-fn next_if(cut: bool, m: u32) -> u32
-    requires { m < 4294967295 }
-    ensures { result ≡ next cut m }
-{
-    if cut { m + 1 } else { m }
-}
-
 // The map that `add_edges` gives: for each edge the number of the edge that is cut off it, and 0 where it is not closed.
 // The answer is how many are closed.
 pub fn mark_closed(numbers: &[u32], edges: usize, added: &mut [u32]) -> usize
     requires { (edges ≤ 4096) × (edges * 4 ≤ length numbers.now) × (edges ≤ length added.old) }
     ensures { (fs : List Float) → Marked (rows (edge_at numbers.now fs) 0 edges) added.old added.new result }
 {
-    let mut i: usize = 0;
     let mut m = edges as u32;
-    while i < edges {
+    for i in 0..edges {
         let cut = is_closed(numbers, i);
-        added[i] = number_if(cut, m);
-        m = next_if(cut, m);
-        i += 1;
+        added[i] = if cut { m } else { 0 };
+        m += u32::from(cut);
     }
     m as usize - edges
 }

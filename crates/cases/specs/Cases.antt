@@ -1,5 +1,5 @@
 -- The worked cases of document 01, K1 to K13, and one claim: each holds of the written definitions.
-use Rattle.std.specs.Prelude.{◌≡◌, refl, List, [], ◌∷◌, ℕ, get_or, Float}
+use Rattle.std.specs.Prelude.{◌≡◌, refl, Option, Some, None, List, [], ◌∷◌, ℕ, get_or, Float}
 use Rattle.std.specs.Float.{binary64}
 use Rattle.std.specs.Float.Ieee.{of_bits, add, sub, mul, div, neg, lt, le, round}
 use Rattle.compress.specs.declared.Curve.TheVariants.{Span}
@@ -15,11 +15,10 @@ use Rattle.cut_edge.specs.Cut.{middle_of, halves_of, pending_of}
 use Rattle.add_edges.specs.Add.{kept_edges, new_edges, new_vertices, added_to}
 use Rattle.mending.specs.Replace.{replace_use, replace_edges, replace_wires}
 use Rattle.split_closed_edges.specs.Pass.{split_closed_edges}
-use Rattle.periodic.specs.declared.Period.{Period}
-use Rattle.periodic.specs.declared.Period.TheVariants.{Absent, Every}
 use Rattle.compress.specs.Choice.{smaller}
 use Rattle.periodic.specs.Unwrap.{away_from, nearest_of, unwrapped, period_cause_of, unwrap_cause, get_mindiff}
-use Rattle.nearest.specs.Ends.{Divisor, point_of, point_gap, gap_from, fronts_of, nearest_front, nearest_ends}
+use Rattle.nearest.specs.declared.Ends.{Ends}
+use Rattle.nearest.specs.Ends.{point_of, point_gap, gap_from, fronts_of, nearest_front, nearest_ends}
 use Rattle.wires.specs.Turn.{turned}
 use Rattle.loops.specs.Loop.{nothing, insert, searched, first_repeat}
 use Rattle.divisor.specs.Divided.{second_pair, divided_by, turned_divisor}
@@ -84,10 +83,10 @@ rim_cut_with wire =
 -- a call, what it is given and what it answers
 pub data Case : Type 0 where
   closed_edges : (given answer : Shell) → Case
-  unwrapping : (u u0 : Float) → Period → Said Float → Case
-  searching : (edges : List Edge) → (vertices : List Vertex) → (wires : List (List ℕ)) → Said Divisor → Case
+  unwrapping : (u u0 : Float) → Option Float → Said Float → Case
+  searching : (edges : List Edge) → (vertices : List Vertex) → (wires : List (List ℕ)) → Said Ends → Case
   splitting : (given : split.Given) → (edges : List Edge) → Answer → Case
-  copying : (p q : Uv) → (up vp : Period) → Said Uv → Case
+  copying : (p q : Uv) → (up vp : Option Float) → Said Uv → Case
 
 -- what a case says of the definitions
 abbrev pub holds : Case → Type 0
@@ -117,11 +116,11 @@ k3 = closed_edges (record { vertices = rim_vertex ∷ []; edges = []; wires = []
 
 -- "K4: u 0.5, u0 6, period 4 gives 4.5."
 abbrev pub k4 : Case
-k4 = unwrapping half64 six64 (Every four64) (result four_and_half64)
+k4 = unwrapping half64 six64 (Some four64) (result four_and_half64)
 
 -- "K5: u 0, u0 2, period 4 gives 0."
 abbrev pub k5 : Case
-k5 = unwrapping zero64 two64 (Every four64) (result zero64)
+k5 = unwrapping zero64 two64 (Some four64) (result zero64)
 
 -- "K9: edges 0 = (0, 2), 1 = (0, 1), 2 = (1, 0), 3 = (2, 3), 4 = (3, 2); vertices (1,0,0), (-1,0,0), (1,0,4), (-1,0,4)"
 abbrev pub edge_between : ℕ → ℕ → Edge
@@ -134,7 +133,7 @@ abbrev pub pipe_vertices : List Vertex
 pipe_vertices =
     Given one64 zero64 zero64 ∷ Given (neg one64) zero64 zero64 ∷ Given one64 zero64 four64 ∷ Given (neg one64) zero64 four64 ∷ []
 
-abbrev pub pipe_wire : List ℕ → Said Divisor → Case
+abbrev pub pipe_wire : List ℕ → Said Ends → Case
 pipe_wire wire answer = searching pipe_edges pipe_vertices (wire ∷ []) answer
 
 -- "K6: 0+ 1+ 2+ gives none."
@@ -184,15 +183,15 @@ both_ways = closed_edges (rim_with (0 ∷ 1 ∷ [])) (rim_cut_with (0 ∷ 2 ∷ 
 
 -- "With no period, u comes back as given, to the bit."
 abbrev pub no_period : Case
-no_period = unwrapping negative_zero64 zero64 Absent (result negative_zero64)
+no_period = unwrapping negative_zero64 zero64 None (result negative_zero64)
 
 -- "Negative zero plus the zero step is zero."
 abbrev pub zero_step : Case
-zero_step = unwrapping negative_zero64 zero64 (Every four64) (result zero64)
+zero_step = unwrapping negative_zero64 zero64 (Some four64) (result zero64)
 
 -- a copy without periods is shifted by zero
 abbrev pub zero_shift : Case
-zero_shift = copying (record { u = zero64; v = zero64 }) (record { u = negative_zero64; v = negative_zero64 }) Absent Absent (result (record { u = zero64; v = zero64 }))
+zero_shift = copying (record { u = zero64; v = zero64 }) (record { u = negative_zero64; v = negative_zero64 }) None None (result (record { u = zero64; v = zero64 }))
 
 abbrev pub corners : List Case
 corners = both_ways ∷ no_period ∷ zero_step ∷ zero_shift ∷ []

@@ -1,4 +1,3 @@
 pub mod Lowest
 pub mod Sound
 pub mod Accepted
-pub mod Small

@@ -10,7 +10,10 @@ use native.Mathlib.Omega.{arith}
 use native.Mathlib.Decide.{dec_le}
 use lib.Dec.{eqb-suc-zero}
 use lib.ListN.{length, get_or, take}
+use Rattle.compress.specs.declared.Refusal.{Refusal}
+use Rattle.compress.specs.Refusals.{refusal_number}
 use Rattle.compress.specs.Wires.{total}
+use Rattle.compress.proofs.Refused.{number_above}
 use Rattle.compress.proofs.Cells.{take_more}
 use Rattle.checks.specs.Causes.{lower_of, lowest_of}
 
@@ -54,6 +57,14 @@ lower_last a = by (lower_is a 0)
     by (none p q r) = omega arith
     by (first p q r) = q
     by (second p q r) = absurd (omega arith)
+
+-- of two refusals
+pub lower_refusals : (x y r : Refusal) → refusal_number r ≡ min (refusal_number x) (refusal_number y) → refusal_number r ≡ lower_of (refusal_number x) (refusal_number y)
+unfolding lower_of
+lower_refusals x y r e =
+    let p = number_above x in
+    let q = number_above y in
+    rw (p.1, q.1, eqb-suc-zero p.0, eqb-suc-zero q.0) (rw (← p.1, ← q.1) e)
 
 -- ---- the lowest of many
 pub lowest_turn : (f : ℕ → ℕ) (i least cause r : ℕ) → least ≡ lowest_of f i → cause ≡ f i → r ≡ lower_of least cause → r ≡ lowest_of f (i + 1)

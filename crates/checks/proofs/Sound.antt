@@ -2,15 +2,18 @@
 use mathlib.Core.Path.{◌≡◌, refl, ◌∙◌}
 use mathlib.Core.Bool.{Bool, true, false, not, ◌&&◌}
 use mathlib.Core.List.{List}
-use Prim.Native.Nat.{ℕ, ◌+◌, ◌*◌, ◌≤◌, ◌<◌}
+use Prim.Native.Nat.{ℕ, zero, suc, ◌+◌, ◌*◌, ◌≤◌, ◌<◌}
 use native.Mathlib.Numerals.{add-one}
 use native.Mathlib.Omega.{arith}
 use borrow.Author.Tests.{ltb-true, lt-leb, le-ltb}
 use lib.Dec.{T, eqb, leb, ltb}
-use lib.ListN.{get_or}
+use lib.ListN.{length, get_or}
 use lib.Ieee.{Float, nan, inf, fin, binary64, up, down, below, neg, le, lt, fits}
 use lib.Ieee.Fits.{and_i, and_l, and_r}
 use lib.Ieee.Scale.{finite}
+use Rattle.std.specs.Bool.{MatchBool}
+use Rattle.std.specs.List.{range_with_len, AllWithin}
+use Rattle.std.proofs.lemmas.List.FromFn.{length-range_with_len, get_or-range_with_len}
 use Rattle.floats.specs.Exact.{big, sized_of}
 use Rattle.floats.specs.Value.{Held, Sle, test→sle}
 use Rattle.floats.specs.Rounds.{neg_held, held_between}
@@ -54,6 +57,19 @@ lower_zero a b p q = rw (p, q) (lower_first 0)
 pub lowest_sound : (f : ℕ → ℕ) (i : ℕ) → lowest_of f i ≡ 0 → f i ≡ 0 → lowest_of f (i + 1) ≡ 0
 unfolding lowest_of
 lowest_sound f i p q = rw add-one (lower_zero (lowest_of f i) (f i) p q)
+
+-- rows that are all without a cause
+pub lowest_all : (f : ℕ → ℕ) (n : ℕ) → ((i : ℕ) → i < n → f i ≡ 0) → lowest_of f n ≡ 0
+unfolding lowest_of
+lowest_all f zero h = refl
+lowest_all f (suc n) h = lower_zero (lowest_of f n) (f n) (lowest_all f n (λ i p. h i (omega arith))) (h n (omega arith))
+
+-- what `all` tells of the rows below n, where a row that passes has no cause
+pub lowest_passed : (f : ℕ → ℕ) (n : ℕ) (r : Bool) (No : Type 0) → MatchBool r (AllWithin (λ i. f i ≡ 0) (range_with_len 0 n) 0 (length (range_with_len 0 n))) No
+    → r ≡ true → lowest_of f n ≡ 0
+lowest_passed f n true No h e =
+    lowest_all f n (λ i p. let q : get_or (range_with_len 0 n) i 0 ≡ i = get_or-range_with_len 0 n i 0 p ∙ omega arith in rw q at (h i 0 (omega arith) (rw (length-range_with_len 0 n) p)))
+lowest_passed f n false No h e = no e
 
 pub float_sound : (x : Float) → sized_of x ≡ true → float_cause x ≡ 0
 unfolding float_cause

@@ -1,85 +1,102 @@
 // Causes 1 to 5 of document 01's table, for lone numbers, records and wires: every input is checked, and the lowest number wins.
-// A cause is its number, and 0 is none. Each check answers for all numbers; what it answers is a definition of specs/Causes.
+// Each check answers for all numbers: nothing, or the refusal whose number is a definition of specs/Causes.
 #![tactic(auto)]
 
-ghost use Rattle.std.specs.Prelude.{◌≡◌, true, ◌+◌, ◌/◌, ◌≤◌, length, take, ltb};
+ghost use Rattle.std.specs.Prelude.{◌≡◌, true, ℕ, ◌+◌, ◌/◌, ◌≤◌, ◌<◌, length, take, ltb};
 ghost use Rattle.compress.specs.Records.{pick, first_of, last_of};
+ghost use Rattle.compress.specs.Refusals.{refusal_number, cause_of};
 ghost use Rattle.compress.specs.Wires.{total};
-ghost use Rattle.checks.specs.Causes.{when, lower_of, count_cause, kind_cause, vertex_number_cause, edge_number_cause, float_cause, range_cause, parameter_cause, period_cause, uv_cause, curve_cause, edge_cause, point_cause, vertex_cause, uses_cause, wires_cause};
+ghost use Rattle.checks.specs.Causes.{when, lower_of, lowest_of, count_cause, kind_cause, vertex_number_cause, edge_number_cause, float_cause, range_cause, parameter_cause, period_cause, uv_cause, curve_cause, edge_cause, point_cause, vertex_cause, uses_cause, wires_cause};
 
-use compress::{Curve, Edge, Uv, Vertex};
+use compress::{Checked, Curve, Edge, Refusal, Uv, Vertex};
 
-// The number where the test holds, else 0: a row of tests is then one expression, with no branch.
-pub fn cause_when(test: bool, number: u32) -> u32
-    ensures { result ≡ when test number }
+// The refusal where the test holds: a row of tests is then one expression, with no branch.
+pub fn cause_when(test: bool, refusal: Refusal) -> Checked
+    ensures { cause_of result ≡ when test (refusal_number refusal) }
 {
-    if test { number } else { 0 }
+    if test { Err(refusal) } else { Ok(()) }
 }
 
 // The lower of two causes.
-pub fn lower(a: u32, b: u32) -> u32
-    ensures { result ≡ lower_of a b }
+pub fn lower(a: Checked, b: Checked) -> Checked
+    ensures { cause_of result ≡ lower_of (cause_of a) (cause_of b) }
 {
-    if a == 0 {
-        return b;
+    match (a, b) {
+        (Err(x), Err(y)) => Err(if x < y { x } else { y }),
+        (Err(x), Ok(())) => Err(x),
+        (Ok(()), other) => other,
     }
-    if b == 0 {
-        return a;
+}
+
+// The lowest cause of rows 0, 1 and so on, `count` of them.
+pub fn lowest_cause<F: Fn(usize) -> Checked>(count: usize, row: F) -> Checked
+    requires { (i : ℕ) → i < count → F.pre row i }
+    ensures { (f : ℕ → ℕ) → ((i : ℕ) (r : _) → i < count → F.post row i r → cause_of r ≡ f i) → cause_of result ≡ lowest_of f count }
+{
+    let mut least = Ok(());
+    for i in 0..count {
+        least = lower(least, row(i));
     }
-    if a < b { a } else { b }
+    least
 }
 
 // ---- lone numbers
 
-pub fn count(most: usize, n: usize) -> u32
-    ensures { result ≡ count_cause most n }
+pub fn count(most: usize, n: usize) -> Checked
+    ensures { cause_of result ≡ count_cause most n }
 {
-    cause_when(n > most, 1)
+    cause_when(n > most, Refusal::Malformed)
 }
 
-pub fn kind(k: u32) -> u32
-    ensures { result ≡ kind_cause k }
+pub fn kind(k: u32) -> Checked
+    ensures { cause_of result ≡ kind_cause k }
 {
-    cause_when(k > 1, 1)
+    cause_when(k > 1, Refusal::Malformed)
 }
 
-pub fn vertex_number(vertices: usize, n: u32) -> u32
-    ensures { result ≡ vertex_number_cause vertices n }
+pub fn vertex_number(vertices: usize, n: u32) -> Checked
+    ensures { cause_of result ≡ vertex_number_cause vertices n }
 {
-    cause_when(n as usize >= vertices, 2)
+    cause_when(n as usize >= vertices, Refusal::VertexNumber)
 }
 
-pub fn edge_number(edges: usize, n: u32) -> u32
-    ensures { result ≡ edge_number_cause edges n }
+pub fn edge_number(edges: usize, n: u32) -> Checked
+    ensures { cause_of result ≡ edge_number_cause edges n }
 {
-    cause_when(n as usize >= edges, 3)
+    cause_when(n as usize >= edges, Refusal::EdgeNumber)
 }
 
-pub fn float(x: f64) -> u32
-    ensures { result ≡ float_cause x }
+pub fn float(x: f64) -> Checked
+    ensures { cause_of result ≡ float_cause x }
 {
-    cause_when(!floats::is_sized(x), 4)
+    cause_when(!floats::is_sized(x), Refusal::NotSized)
 }
 
-fn range(t0: f64, t1: f64) -> u32
-    ensures { result ≡ range_cause t0 t1 }
-{
-    lower(float(t0), lower(float(t1), cause_when(t0 > t1, 5)))
-}
-
-pub fn parameter(t0: f64, t1: f64, t: f64) -> u32
-    ensures { result ≡ parameter_cause t0 t1 t }
+fn range(t0: f64, t1: f64) -> Checked
+    ensures { cause_of result ≡ range_cause t0 t1 }
 {
     lower(
-        float(t),
-        lower(cause_when(t < t0, 5), cause_when(t > t1, 5)),
+        float(t0),
+        lower(float(t1), cause_when(t0 > t1, Refusal::OutOfRange)),
     )
 }
 
-pub fn period(p: f64) -> u32
-    ensures { result ≡ period_cause p }
+pub fn parameter(t0: f64, t1: f64, t: f64) -> Checked
+    ensures { cause_of result ≡ parameter_cause t0 t1 t }
 {
-    lower(float(p), cause_when(!(p > 0.0), 5))
+    lower(
+        float(t),
+        lower(
+            cause_when(t < t0, Refusal::OutOfRange),
+            cause_when(t > t1, Refusal::OutOfRange),
+        ),
+    )
+}
+
+pub fn period(p: f64) -> Checked
+    ensures { cause_of result ≡ period_cause p }
+{
+    lower(float(p), cause_when(!(p > 0.0), Refusal::OutOfRange))
 }
 
 // The number itself where it fits, else the largest that does.
@@ -94,14 +111,14 @@ pub fn narrow(n: usize) -> u32
 
 // ---- records
 
-pub fn uv(p: Uv) -> u32
-    ensures { result ≡ uv_cause p }
+pub fn uv(p: Uv) -> Checked
+    ensures { cause_of result ≡ uv_cause p }
 {
     lower(float(p.u), float(p.v))
 }
 
-fn curve(c: Curve) -> u32
-    ensures { result ≡ curve_cause c }
+fn curve(c: Curve) -> Checked
+    ensures { cause_of result ≡ curve_cause c }
 {
     match c {
         Curve::Span { number: _, t0, t1 } => range(t0, t1),
@@ -115,8 +132,8 @@ fn curve(c: Curve) -> u32
     }
 }
 
-pub fn edge(vertices: usize, e: Edge) -> u32
-    ensures { result ≡ edge_cause vertices e }
+pub fn edge(vertices: usize, e: Edge) -> Checked
+    ensures { cause_of result ≡ edge_cause vertices e }
 {
     let c = e.curve;
     let front = vertex_number(vertices, e.front);
@@ -124,14 +141,14 @@ pub fn edge(vertices: usize, e: Edge) -> u32
     lower(front, lower(back, curve(c)))
 }
 
-pub fn point(x: f64, y: f64, z: f64) -> u32
-    ensures { result ≡ point_cause x y z }
+pub fn point(x: f64, y: f64, z: f64) -> Checked
+    ensures { cause_of result ≡ point_cause x y z }
 {
     lower(float(x), lower(float(y), float(z)))
 }
 
-fn curve_parameter(c: Curve, t: f64) -> u32
-    ensures { result ≡ parameter_cause (first_of c) (last_of c) t }
+fn curve_parameter(c: Curve, t: f64) -> Checked
+    ensures { cause_of result ≡ parameter_cause (first_of c) (last_of c) t }
 {
     match c {
         Curve::Span { number: _, t0, t1 } => parameter(t0, t1, t),
@@ -145,8 +162,8 @@ fn curve_parameter(c: Curve, t: f64) -> u32
     }
 }
 
-pub fn vertex(v: Vertex) -> u32
-    ensures { result ≡ vertex_cause v }
+pub fn vertex(v: Vertex) -> Checked
+    ensures { cause_of result ≡ vertex_cause v }
 {
     match v {
         Vertex::Given { x, y, z } => point(x, y, z),
@@ -181,44 +198,40 @@ fn are_uses_sound(edges: usize, uses: &[u32], count: usize) -> bool
     sound
 }
 
-fn use_causes(edges: usize, uses: &[u32], count: usize) -> u32
+fn use_causes(edges: usize, uses: &[u32], count: usize) -> Checked
     requires { count ≤ length uses.now }
-    ensures { result ≡ uses_cause edges uses.now count }
+    ensures { cause_of result ≡ uses_cause edges uses.now count }
 {
-    let mut least: u32 = 0;
-    for i in 0..count {
-        least = lower(least, edge_number(edges, uses[i] / 2));
-    }
-    least
+    lowest_cause(count, |i| edge_number(edges, uses[i] / 2))
 }
 
 // The first `count` uses, of a table of `edges` edges.
-pub fn use_rows(edges: usize, uses: &[u32], count: usize) -> u32
+pub fn use_rows(edges: usize, uses: &[u32], count: usize) -> Checked
     requires { count ≤ length uses.now }
-    ensures { result ≡ uses_cause edges uses.now count }
+    ensures { cause_of result ≡ uses_cause edges uses.now count }
 {
     if are_uses_sound(edges, uses, count) {
-        return 0;
+        return Ok(());
     }
     use_causes(edges, uses, count)
 }
 
 // The wires of a call whose wires lie in one slice, over a table of `edges` edges.
-pub fn wires(edges: usize, uses: &[u32], lengths: &[u32], count: usize) -> u32
-    ensures { result ≡ wires_cause edges uses.now lengths.now count }
+pub fn wires(edges: usize, uses: &[u32], lengths: &[u32], count: usize) -> Checked
+    ensures { cause_of result ≡ wires_cause edges uses.now lengths.now count }
 {
     if count > 64 {
-        return 1;
+        return Err(Refusal::Malformed);
     }
     if lengths.len() < count {
-        return 1;
+        return Err(Refusal::Malformed);
     }
     let sum = total_uses(lengths, count);
     if sum > 1024 {
-        return 1;
+        return Err(Refusal::Malformed);
     }
     if uses.len() < sum {
-        return 1;
+        return Err(Refusal::Malformed);
     }
     use_rows(edges, uses, sum)
 }

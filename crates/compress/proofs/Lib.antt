@@ -4,3 +4,4 @@ pub mod Layouts
 pub mod Rows
 pub mod Room
 pub mod Wires
+pub mod Refused

@@ -1,6 +1,5 @@
 -- The numbers of document 01's table, "When a call is turned away". Definitions only.
-use Rattle.std.specs.Prelude.{ℕ, eqb}
-use Rattle.compress.specs.Records.{pick}
+use Rattle.std.specs.Prelude.{ℕ, Result, Ok, Err}
 use Rattle.compress.specs.declared.Refusal.{Refusal}
 use Rattle.compress.specs.declared.Refusal.TheVariants.{Malformed, VertexNumber, EdgeNumber, NotSized, OutOfRange, NoRoom, PendingVertex, PastEnd, OddDivisor, RepeatedVertex, DeadEnd, TooManyUses, EmptyList, SeveralCuts, EmptyOpenWire}
 
@@ -36,20 +35,7 @@ refusal_number SeveralCuts = 14
 -- an empty open wire in a join
 refusal_number EmptyOpenWire = 15
 
--- the refusal that has a number
-unfoldable pub refusal_of : ℕ → Refusal
-refusal_of n =
-    pick (eqb n 2) VertexNumber
-    (pick (eqb n 3) EdgeNumber
-    (pick (eqb n 4) NotSized
-    (pick (eqb n 5) OutOfRange
-    (pick (eqb n 6) NoRoom
-    (pick (eqb n 7) PendingVertex
-    (pick (eqb n 8) PastEnd
-    (pick (eqb n 9) OddDivisor
-    (pick (eqb n 10) RepeatedVertex
-    (pick (eqb n 11) DeadEnd
-    (pick (eqb n 12) TooManyUses
-    (pick (eqb n 13) EmptyList
-    (pick (eqb n 14) SeveralCuts
-    (pick (eqb n 15) EmptyOpenWire Malformed)))))))))))))
+-- the number of a cause; 0 is none
+abbrev pub cause_of : {A : Type 0} → Result A Refusal → ℕ
+cause_of (Ok a) = 0
+cause_of (Err r) = refusal_number r

@@ -1,5 +1,7 @@
 -- What a call answers, in document 01's terms: a result, "none", or the number of a refusal. Definitions only.
-use Rattle.std.specs.Prelude.{ℕ, zero, suc}
+use Rattle.std.specs.Prelude.{ℕ, zero, suc, Option, Some, None, Result, Ok, Err}
+use Rattle.compress.specs.declared.Refusal.{Refusal}
+use Rattle.compress.specs.Refusals.{refusal_number}
 
 pub data Said (A : Type 0) : Type 0 where
   result : A → Said A
@@ -16,3 +18,14 @@ on_result (refused n) f = refused n
 abbrev pub refused_or : {A : Type 0} → ℕ → Said A → Said A
 refused_or zero s = s
 refused_or (suc n) s = refused (suc n)
+
+-- An answer in these terms, with what is said of its result.
+abbrev pub said_of : {A B : Type 0} → (A → B) → Result A Refusal → Said B
+said_of f (Ok a) = result (f a)
+said_of f (Err r) = refused (refusal_number r)
+
+-- The same of an answer that may be "none".
+abbrev pub said_if : {A B : Type 0} → (A → B) → Result (Option A) Refusal → Said B
+said_if f (Ok (Some a)) = result (f a)
+said_if f (Ok None) = none
+said_if f (Err r) = refused (refusal_number r)

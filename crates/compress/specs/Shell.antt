@@ -2,6 +2,7 @@
 use Rattle.std.specs.Prelude.{Bool, ◌&&◌, List, ℕ, ◌*◌, leb, length, take, Float}
 use Rattle.compress.specs.declared.Edge.{Edge}
 use Rattle.compress.specs.declared.Vertex.{Vertex}
+use Rattle.compress.specs.declared.Counts.{Counts}
 use Rattle.compress.specs.Layout.{store, rows}
 use Rattle.compress.specs.Rows.{edge_at, vertex_at, edge_number_layout, edge_float_layout, vertex_number_layout, vertex_float_layout}
 use Rattle.compress.specs.Wires.{wires_of, uses_of, lengths_of, over}
@@ -27,12 +28,6 @@ pub record Lent : Type 0 where
   pub vertices : ℕ
   pub edges : ℕ
   pub wires : ℕ
-
--- how many vertices, edges and uses a result has
-pub record Counts : Type 0 where
-  pub vertices : ℕ
-  pub edges : ℕ
-  pub uses : ℕ
 
 -- the shell that lies in the slices
 unfoldable pub load : Lent → Shell

@@ -3,7 +3,7 @@
 
 ghost use Rattle.std.specs.Prelude.{◌≡◌, ◌+◌, ◌*◌, ◌/◌, ◌≤◌, length};
 ghost use Rattle.compress.specs.Records.{front_of, front_at};
-ghost use Rattle.compress.specs.Refusals.{refusal_number, refusal_of};
+ghost use Rattle.compress.specs.Refusals.{refusal_number};
 ghost use Rattle.compress.specs.Layout.{put};
 ghost use Rattle.compress.specs.Rows.{curve_of, curve_at, edge_at, vertex_at};
 
@@ -46,70 +46,45 @@ pub enum Vertex {
     Pending { curve: Curve, t: f64 },
 }
 
-// Why a call is turned away: a case for each row of document 01's table, in its order.
-#[derive(Clone, Copy)]
+// Why a call is turned away: a case for each row of document 01's table, in its order, with its number there. The lowest number wins, so the
+// lesser of two refusals is the one that a caller is told.
+#[derive(Clone, Copy, PartialEq, Eq, PartialOrd, Ord)]
 pub enum Refusal {
-    Malformed,
-    VertexNumber,
-    EdgeNumber,
-    NotSized,
-    OutOfRange,
-    NoRoom,
-    PendingVertex,
-    PastEnd,
-    OddDivisor,
-    RepeatedVertex,
-    DeadEnd,
-    TooManyUses,
-    EmptyList,
-    SeveralCuts,
-    EmptyOpenWire,
+    Malformed = 1,
+    VertexNumber = 2,
+    EdgeNumber = 3,
+    NotSized = 4,
+    OutOfRange = 5,
+    NoRoom = 6,
+    PendingVertex = 7,
+    PastEnd = 8,
+    OddDivisor = 9,
+    RepeatedVertex = 10,
+    DeadEnd = 11,
+    TooManyUses = 12,
+    EmptyList = 13,
+    SeveralCuts = 14,
+    EmptyOpenWire = 15,
 }
 
 // The number of a refusal in document 01's table.
-pub fn refusal_number(r: Refusal) -> u32
-    ensures { result ≡ refusal_number r }
-{
-    match r {
-        Refusal::Malformed => 1,
-        Refusal::VertexNumber => 2,
-        Refusal::EdgeNumber => 3,
-        Refusal::NotSized => 4,
-        Refusal::OutOfRange => 5,
-        Refusal::NoRoom => 6,
-        Refusal::PendingVertex => 7,
-        Refusal::PastEnd => 8,
-        Refusal::OddDivisor => 9,
-        Refusal::RepeatedVertex => 10,
-        Refusal::DeadEnd => 11,
-        Refusal::TooManyUses => 12,
-        Refusal::EmptyList => 13,
-        Refusal::SeveralCuts => 14,
-        Refusal::EmptyOpenWire => 15,
+impl From<Refusal> for u32 {
+    ghost from_gives = { λ r n. n ≡ refusal_number r };
+
+    fn from(r: Refusal) -> u32 {
+        r as u32
     }
 }
 
-// The refusal that has a number. The checks tell their causes by number.
-pub fn refusal_of(cause: u32) -> Refusal
-    ensures { result ≡ refusal_of cause }
-{
-    match cause {
-        2 => Refusal::VertexNumber,
-        3 => Refusal::EdgeNumber,
-        4 => Refusal::NotSized,
-        5 => Refusal::OutOfRange,
-        6 => Refusal::NoRoom,
-        7 => Refusal::PendingVertex,
-        8 => Refusal::PastEnd,
-        9 => Refusal::OddDivisor,
-        10 => Refusal::RepeatedVertex,
-        11 => Refusal::DeadEnd,
-        12 => Refusal::TooManyUses,
-        13 => Refusal::EmptyList,
-        14 => Refusal::SeveralCuts,
-        15 => Refusal::EmptyOpenWire,
-        _ => Refusal::Malformed,
-    }
+// What a check comes to: nothing, or why the call is turned away.
+pub type Checked = Result<(), Refusal>;
+
+// How many vertices, edges and uses a shell has.
+#[derive(Clone, Copy)]
+pub struct Counts {
+    pub vertices: usize,
+    pub edges: usize,
+    pub uses: usize,
 }
 
 // The vertex at which the use `u` of the edge begins.

@@ -1,4 +1,4 @@
--- What an input of nearest ends without a cause is, and that its cause is a number of the table.
+-- What an input of nearest ends without a cause is.
 -- Assumes nothing.
 use mathlib.Core.Path.{◌≡◌}
 use mathlib.Core.List.{List}
@@ -9,11 +9,11 @@ use lib.Dec.{leb, ltb}
 use lib.ListN.{length, get_or, take}
 use lib.Seq.{get_or-take, length-take-le}
 use lib.Ieee.{Float}
+use Rattle.compress.proofs.Refused.{said_refused, said_checked}
 use Rattle.checks.specs.Causes.{uses_cause, vertex_number_cause}
 use Rattle.checks.proofs.Accepted.{passed, not_when, uses_in}
 use Rattle.checks.proofs.Lowest.{lower_none}
-use Rattle.checks.proofs.Small.{lower_small, pick_small, uses_small, vertex_number_small}
-use Rattle.points.proofs.Accepted.{TablesAccepted, tables_accepted, tables_small}
+use Rattle.points.proofs.Accepted.{TablesAccepted, tables_accepted}
 use Rattle.correction.specs.Correction.{stretches_cause, ends_cause}
 use Rattle.points.specs.Tables.{tables_cause}
 
@@ -52,11 +52,5 @@ ends_accepted vn vf en ef a b v e n m v0 q =
       second = stretch e b m (ltb-false (length b) m y.0) u.1;
     }
 
-pub ends_small : (vn : List ℕ) (vf : List Float) (en : List ℕ) (ef : List Float) (a b : List ℕ) (v e n m v0 : ℕ) → ends_cause vn vf en ef a b v e n m v0 ≤ 15
-unfolding ends_cause stretches_cause
-ends_small vn vf en ef a b v e n m v0 =
-    lower_small (tables_cause vn vf en ef v e) _ (tables_small vn vf en ef v e)
-    (lower_small (vertex_number_cause v v0) _ (vertex_number_small v v0)
-    (pick_small (ltb (length a) n) _
-    (pick_small (ltb (length b) m) _
-    (pick_small (ltb 1024 (n + m)) _ (lower_small (uses_cause e a n) _ (uses_small e a n) (uses_small e b m))))))
+-- the lemmas of the call
+pub ruleset checked = (ends_accepted, said_refused, said_checked)

@@ -2,31 +2,33 @@
 #![tactic(auto)]
 
 ghost use Rattle.std.specs.Prelude.{◌≡◌};
-ghost use Rattle.nearest.specs.Ends.{said_ends};
+ghost use Rattle.compress.specs.Refusals.{cause_of};
+ghost use Rattle.compress.specs.Said.{said_if};
 ghost use Rattle.correction.specs.Correction.{stretches_cause, ends_cause, nearest_correction};
 
+use compress::{Checked, Refusal};
 use nearest::Ends;
 
-fn stretches_cause(edges: usize, a: &[u32], n: usize, b: &[u32], m: usize) -> u32
-    ensures { result ≡ stretches_cause edges a.now n b.now m }
+// The first n uses of a, and the first m of b.
+#[tactic(auto, using(std::proofs::lemmas::Bool::Decides::nat_tests), unfolding(crate::specs::Correction::stretches_cause))]
+fn stretches_cause(edges: usize, a: &[u32], n: usize, b: &[u32], m: usize) -> Checked
+    ensures { cause_of result ≡ stretches_cause edges a.now n b.now m }
 {
     if a.len() < n {
-        return 1;
+        return Err(Refusal::Malformed);
     }
     if b.len() < m {
-        return 1;
+        return Err(Refusal::Malformed);
     }
-    if n > 1024 {
-        return 1;
-    }
-    if m > 1024 - n {
-        return 1;
+    if n + m > 1024 {
+        return Err(Refusal::Malformed);
     }
     let x = checks::use_rows(edges, a, n);
     let y = checks::use_rows(edges, b, m);
     checks::lower(x, y)
 }
 
+#[tactic(auto, unfolding(crate::specs::Correction::ends_cause))]
 fn ends_cause(
     vertex_numbers: &[u32],
     vertex_floats: &[f64],
@@ -39,8 +41,8 @@ fn ends_cause(
     n: usize,
     m: usize,
     v0: u32,
-) -> u32
-    ensures { result ≡ ends_cause vertex_numbers.now vertex_floats.now edge_numbers.now edge_floats.now first.now second.now vertices edges n m v0 }
+) -> Checked
+    ensures { cause_of result ≡ ends_cause vertex_numbers.now vertex_floats.now edge_numbers.now edge_floats.now first.now second.now vertices edges n m v0 }
 {
     let t = points::tables_cause(
         vertex_numbers,
@@ -55,6 +57,7 @@ fn ends_cause(
 }
 
 // `nearest_correction`: the nearest ends of two stretches, seen from vertex v0.
+#[tactic(auto, using(crate::proofs::Accepted::checked), unfolding(crate::specs::Correction::nearest_correction))]
 pub fn nearest_correction(
     vertex_numbers: &[u32],
     vertex_floats: &[f64],
@@ -67,10 +70,10 @@ pub fn nearest_correction(
     n: usize,
     m: usize,
     v0: u32,
-) -> Ends
-    ensures { said_ends result ≡ nearest_correction vertex_numbers.now vertex_floats.now edge_numbers.now edge_floats.now first.now second.now vertices edges n m v0 }
+) -> Result<Option<Ends>, Refusal>
+    ensures { said_if (λ e. e) result ≡ nearest_correction vertex_numbers.now vertex_floats.now edge_numbers.now edge_floats.now first.now second.now vertices edges n m v0 }
 {
-    let cause = ends_cause(
+    ends_cause(
         vertex_numbers,
         vertex_floats,
         edge_numbers,
@@ -82,11 +85,8 @@ pub fn nearest_correction(
         n,
         m,
         v0,
-    );
-    if cause != 0 {
-        return Ends::EndsRefused(compress::refusal_of(cause));
-    }
-    nearest::nearest_ends(
+    )?;
+    Ok(nearest::nearest_ends(
         vertex_numbers,
         vertex_floats,
         edge_numbers,
@@ -96,5 +96,5 @@ pub fn nearest_correction(
         &first[..n],
         &second[..m],
         v0,
-    )
+    ))
 }

@@ -3,13 +3,14 @@
 
 ghost use Rattle.std.specs.Prelude.{◌≡◌, ◌+◌, ◌*◌, ◌≤◌, ◌<◌, length};
 ghost use Rattle.compress.specs.declared.Vertex.TheVariants.{Given};
+ghost use Rattle.compress.specs.Refusals.{cause_of};
 ghost use Rattle.compress.specs.Layout.{put};
 ghost use Rattle.compress.specs.Rows.{edge_at, edge_number_layout, edge_float_layout, vertex_number_layout, vertex_float_layout};
 ghost use Rattle.checks.specs.Causes.{lowest_of};
 ghost use Rattle.cut_edge.specs.Cut.{halves_of};
-ghost use Rattle.cuts.specs.Cuts.{cut_of, cut_at, cut_cause, cuts_cause};
+ghost use Rattle.cuts.specs.Cuts.{cut_at, cut_cause, cuts_cause};
 
-use compress::Vertex;
+use compress::{Checked, Refusal, Vertex};
 
 // A cut: the parameter on the edge's curve, and the point there.
 #[derive(Clone, Copy)]
@@ -22,47 +23,42 @@ pub struct Cut {
 
 // ---- the cuts
 
-fn cut_of(t: f64, x: f64, y: f64, z: f64) -> Cut
-    ensures { result ≡ cut_of t x y z }
-{
-    Cut { t, x, y, z }
-}
-
 // The cut of row i: parameter, x, y, z.
 pub fn cut_at(cuts: &[f64], i: usize) -> Cut
     requires { i * 4 + 4 ≤ length cuts.now }
     ensures { result ≡ cut_at cuts.now i }
 {
     let a = i * 4;
-    cut_of(cuts[a], cuts[a + 1], cuts[a + 2], cuts[a + 3])
+    Cut {
+        t: cuts[a],
+        x: cuts[a + 1],
+        y: cuts[a + 2],
+        z: cuts[a + 3],
+    }
 }
 
 // Causes 4 and 5 of a cut on a curve from t0 to t1.
-fn cut_cause(t0: f64, t1: f64, c: Cut) -> u32
-    ensures { result ≡ cut_cause t0 t1 c }
+fn cut_cause(t0: f64, t1: f64, c: Cut) -> Checked
+    ensures { cause_of result ≡ cut_cause t0 t1 c }
 {
     let t = checks::parameter(t0, t1, c.t);
     let p = checks::point(c.x, c.y, c.z);
     checks::lower(t, p)
 }
 
-fn cut_rows(t0: f64, t1: f64, cuts: &[f64], count: usize) -> u32
+fn cut_rows(t0: f64, t1: f64, cuts: &[f64], count: usize) -> Checked
     requires { count * 4 ≤ length cuts.now }
-    ensures { result ≡ lowest_of (λ i. cut_cause t0 t1 (cut_at cuts.now i)) count }
+    ensures { cause_of result ≡ lowest_of (λ i. cut_cause t0 t1 (cut_at cuts.now i)) count }
 {
-    let mut least: u32 = 0;
-    for i in 0..count {
-        least = checks::lower(least, cut_cause(t0, t1, cut_at(cuts, i)));
-    }
-    least
+    checks::lowest_cause(count, |i| cut_cause(t0, t1, cut_at(cuts, i)))
 }
 
 // Causes 1, 4 and 5 of all cuts.
-pub fn cuts_cause(t0: f64, t1: f64, cuts: &[f64], count: usize) -> u32
-    ensures { result ≡ cuts_cause t0 t1 cuts.now count }
+pub fn cuts_cause(t0: f64, t1: f64, cuts: &[f64], count: usize) -> Checked
+    ensures { cause_of result ≡ cuts_cause t0 t1 cuts.now count }
 {
     if count > cuts.len() / 4 {
-        return 1;
+        return Err(Refusal::Malformed);
     }
     cut_rows(t0, t1, cuts, count)
 }
@@ -89,14 +85,12 @@ pub fn put_cut(
 {
     let e = compress::edge_at(edge_numbers, edge_floats, i);
     let h = cut_edge::cut_held(e, c.t, n as u32);
-    let old = h.old;
-    let new = h.new;
     let v = Vertex::Given {
         x: c.x,
         y: c.y,
         z: c.z,
     };
     rows::put_vertex(vertex_numbers, vertex_floats, n, v);
-    rows::put_edge(edge_numbers, edge_floats, i, old);
-    rows::put_edge(edge_numbers, edge_floats, m, new);
+    rows::put_edge(edge_numbers, edge_floats, i, h.old);
+    rows::put_edge(edge_numbers, edge_floats, m, h.new);
 }

@@ -1,14 +1,18 @@
 -- What the calls that cut edges share: an input without a cause, and the two ways out of a call that has none, in terms of its result.
 -- Assumes nothing.
-use mathlib.Core.Path.{◌≡◌, refl, ◌∙◌}
+use mathlib.Core.Path.{◌≡◌, ◌∙◌}
 use mathlib.Core.Bool.{true, false, ◌&&◌}
 use mathlib.Core.List.{List, ◌++◌}
-use Prim.Native.Nat.{ℕ, zero, suc, ◌+◌, ◌≤◌}
+use Prim.Native.Nat.{ℕ, ◌+◌}
 use native.Mathlib.Omega.{arith}
 use lib.Dec.{leb}
 use lib.ListN.{length}
 use lib.Ieee.{Float}
-use Rattle.compress.specs.declared.Refusal.TheVariants.{NoRoom}
+use Rattle.std.specs.Prelude.{Result, Ok, Err, is_ok}
+use Rattle.compress.specs.declared.Refusal.{Refusal}
+use Rattle.compress.specs.declared.Refusal.TheVariants as refusal
+use Rattle.compress.specs.Refusals.{refusal_number}
+use Rattle.compress.proofs.Refused.{number_above}
 use Rattle.compress.specs.declared.Vertex.{Vertex}
 use Rattle.compress.specs.Layout.{store, store_from, rows}
 use Rattle.compress.specs.Rows.{vertex_at, edge_number_layout, edge_float_layout, vertex_number_layout, vertex_float_layout}
@@ -19,21 +23,15 @@ use Rattle.compress.proofs.Rows.{vertex_numbers_stand, vertex_floats_stand}
 use Rattle.checks.specs.Causes.{vertices_cause, edges_cause, wires_cause}
 use Rattle.checks.proofs.Accepted.{VerticesAccepted, EdgesAccepted, WiresAccepted, vertices_accepted, edges_accepted, wires_accepted}
 use Rattle.checks.proofs.Lowest.{lower_none}
-use Rattle.checks.proofs.Small.{lower_small, vertices_small, edges_small, wires_small}
-use Rattle.mending.specs.declared.Mend.{Mend}
-use Rattle.mending.specs.Steps.{InPlace}
-use Rattle.cutting.specs.declared.Split.TheVariants.{Done, Refused}
+use Rattle.mending.specs.declared.NoRoom.{NoRoom}
+use Rattle.mending.specs.Steps.{InPlace, count_told}
 use Rattle.cutting.specs.Contract.{Outcome, lent_of, leaves, input_cause, result_of, cause_or}
 
-pub way_cause : (k : ℕ) (s : Slices) (o : Outcome) → (k ≡ 0 → ⊥) → cause_or k s o ≡ record { said = refused k; slices = s }
-way_cause zero s o ne = absurd (ne refl)
-way_cause (suc k) s o ne = refl
+-- a cause: its refusal, and nothing written
+pub way_cause : (r : Refusal) (k : ℕ) (s : Slices) (o : Outcome) → refusal_number r ≡ k → record { said = refused (refusal_number r); slices = s } ≡ cause_or k s o
+way_cause r k s o e = let p = number_above r in rw (← e, p.1)
 
 module _ (vn : List ℕ) (vf : List Float) (en : List ℕ) (ef : List Float) (us ls : List ℕ) (v e w : ℕ) where
-  pub input_small : input_cause (lent_of vn vf en ef us ls v e w) ≤ 15
-  unfolding input_cause
-  input_small = lower_small (vertices_cause vn vf v) _ (vertices_small vn vf v) (lower_small (edges_cause v en ef e) _ (edges_small v en ef e) (wires_small e us ls w))
-
   pub record Accepted : Type 0 where
     pub vertices : VerticesAccepted vn vf v
     pub edges : EdgesAccepted v en ef e
@@ -67,23 +65,23 @@ module _ (vn : List ℕ) (vf : List Float) (en : List ℕ) (ef : List Float) (us
   -- were mended in place where there is room.
   module _ (r : Shell) (cuts : ℕ) (lv : length r.vertices ≡ v + cuts) (le : length r.edges ≡ e + cuts)
       (room : ℕ) (has : (k : ℕ) → leb k room ≡ (vertices_fit vn vf (v + k) && edges_fit en ef (e + k)))
-      (us' ls' : List ℕ) (m : Mend) (M : InPlace r.wires (leb cuts room) us ls us' ls' m) where
-    room_is : has_room (lent_of vn vf en ef us ls v e w).slices (counts_of r) ≡ m.fits
+      (us' ls' : List ℕ) (m : Result ℕ NoRoom) (M : InPlace r.wires (leb cuts room) us ls us' ls' m) where
+    room_is : has_room (lent_of vn vf en ef us ls v e w).slices (counts_of r) ≡ is_ok m
     unfolding has_room counts_of
     room_is = rw (lv, le, M.fits, has cuts)
 
     -- no room: 6, and nothing written
-    pub result_full : m.fits ≡ false → leaves (Refused NoRoom) vn vf en ef us' ls' ≡ result_of (lent_of vn vf en ef us ls v e w).slices r
+    pub result_full : is_ok m ≡ false → leaves (Err refusal.NoRoom) vn vf en ef us' ls' ≡ result_of (lent_of vn vf en ef us ls v e w).slices r
     result_full t =
         let eu : us' ≡ us = M.uses ∙ rw t in
         let el : ls' ≡ ls = M.lengths ∙ rw t in
         rw (room_is, t, eu, el)
 
     -- room: the new counts, and the result stored
-    pub result_done : (vn' : List ℕ) (vf' : List Float) (en' : List ℕ) (ef' : List Float) → m.fits ≡ true
+    pub result_done : (vn' : List ℕ) (vf' : List Float) (en' : List ℕ) (ef' : List Float) → is_ok m ≡ true
         → vn' ≡ store vertex_number_layout vn r.vertices → vf' ≡ store vertex_float_layout vf r.vertices
         → en' ≡ store edge_number_layout en r.edges → ef' ≡ store edge_float_layout ef r.edges
-        → leaves (Done (v + cuts) (e + cuts) m.uses) vn' vf' en' ef' us' ls' ≡ result_of (lent_of vn vf en ef us ls v e w).slices r
+        → leaves (Ok (record { vertices = v + cuts; edges = e + cuts; uses = count_told m })) vn' vf' en' ef' us' ls' ≡ result_of (lent_of vn vf en ef us ls v e w).slices r
     unfolding store_shell counts_of
     result_done vn' vf' en' ef' t ev evf ee eef =
         rw (room_is, t, ev, evf, ee, eef, M.uses, M.lengths, t, M.count, lv, le)

@@ -1,17 +1,11 @@
 -- What the contracts of the calls that cut edges share: what such a call is lent and what it leaves, causes 1 to 5, and room for its result.
 -- Definitions only.
-use Rattle.std.specs.Prelude.{Bool, true, false, List, ℕ, zero, suc, Float}
-use Rattle.compress.specs.Refusals.{refusal_number}
-use Rattle.compress.specs.Said.{Said, result, refused}
-use Rattle.compress.specs.Shell.{Shell, Slices, Lent, Counts, store_shell, counts_of, has_room}
+use Rattle.std.specs.Prelude.{Bool, true, false, Result, List, ℕ, zero, suc, Float}
+use Rattle.compress.specs.declared.Refusal.{Refusal}
+use Rattle.compress.specs.declared.Counts.{Counts}
+use Rattle.compress.specs.Said.{Said, result, refused, said_of}
+use Rattle.compress.specs.Shell.{Shell, Slices, Lent, store_shell, counts_of, has_room}
 use Rattle.checks.specs.Causes.{lower_of, vertices_cause, edges_cause, wires_cause}
-use Rattle.cutting.specs.declared.Split.{Split}
-use Rattle.cutting.specs.declared.Split.TheVariants.{Done, Refused}
-
--- the answer's cases in document 01's terms: the new counts, or the number of the refusal
-abbrev pub said_of : Split → Said Counts
-said_of (Done v e u) = result (record { vertices = v; edges = e; uses = u })
-said_of (Refused r) = refused (refusal_number r)
 
 -- what a call is lent
 abbrev pub lent_of : List ℕ → List Float → List ℕ → List Float → List ℕ → List ℕ → ℕ → ℕ → ℕ → Lent
@@ -23,8 +17,8 @@ pub record Outcome : Type 0 where
   pub said : Said Counts
   pub slices : Slices
 
-abbrev pub leaves : Split → List ℕ → List Float → List ℕ → List Float → List ℕ → List ℕ → Outcome
-leaves r vn vf en ef us ls = record { said = said_of r; slices = record { vn = vn; vf = vf; en = en; ef = ef; us = us; ls = ls } }
+abbrev pub leaves : Result Counts Refusal → List ℕ → List Float → List ℕ → List Float → List ℕ → List ℕ → Outcome
+leaves r vn vf en ef us ls = record { said = said_of (λ c. c) r; slices = record { vn = vn; vf = vf; en = en; ef = ef; us = us; ls = ls } }
 
 -- causes 1 to 5, over all that was lent
 unfoldable pub input_cause : Lent → ℕ

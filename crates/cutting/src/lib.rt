@@ -2,22 +2,11 @@
 #![tactic(auto)]
 
 ghost use Rattle.std.specs.Prelude.{◌≡◌, ◌&&◌, ℕ, ◌+◌, ◌*◌, ◌≤◌, leb, length};
+ghost use Rattle.compress.specs.Refusals.{cause_of};
 ghost use Rattle.compress.specs.Shell.{vertices_fit, edges_fit};
-ghost use Rattle.cutting.specs.Least.{Least};
 ghost use Rattle.cutting.specs.Contract.{lent_of, input_cause};
 
-use compress::Refusal;
-
-// The answer of a call that cuts edges: how many vertices, edges and uses there are now, or why the call was turned away.
-#[derive(Clone, Copy)]
-pub enum Split {
-    Done {
-        vertices: usize,
-        edges: usize,
-        uses: usize,
-    },
-    Refused(Refusal),
-}
+use compress::Checked;
 
 // Causes 1 to 5, over all that is lent.
 pub fn input_cause(
@@ -30,19 +19,13 @@ pub fn input_cause(
     vertices: usize,
     edges: usize,
     wires: usize,
-) -> u32
-    ensures { result ≡ input_cause (lent_of vertex_numbers.now vertex_floats.now edge_numbers.now edge_floats.now uses.now lengths.now vertices edges wires) }
+) -> Checked
+    ensures { cause_of result ≡ input_cause (lent_of vertex_numbers.now vertex_floats.now edge_numbers.now edge_floats.now uses.now lengths.now vertices edges wires) }
 {
     let v = tables::vertices(vertex_numbers, vertex_floats, vertices);
     let e = tables::edges(vertices, edge_numbers, edge_floats, edges);
     let w = checks::wires(edges, uses, lengths, wires);
     checks::lower(v, checks::lower(e, w))
-}
-
-fn least(a: usize, b: usize) -> usize
-    ensures { Least a b result }
-{
-    if a <= b { a } else { b }
 }
 
 // How many edges of tables that have none of the causes can be cut, each by a new vertex, until a bound or a slice is full.
@@ -58,7 +41,7 @@ pub fn cut_room(
     requires edges_bound { (edges ≤ 4096) × (edges * 4 ≤ length edge_numbers.now) × (edges * 6 ≤ length edge_floats.now) }
     ensures { (k : ℕ) → leb k result ≡ (vertices_fit vertex_numbers.now vertex_floats.now (vertices + k) && edges_fit edge_numbers.now edge_floats.now (edges + k)) }
 {
-    let v = least(vertex_numbers.len() / 3, vertex_floats.len() / 7);
-    let e = least(edge_numbers.len() / 4, edge_floats.len() / 6);
-    least(least(4096, v) - vertices, least(4096, e) - edges)
+    let v = (vertex_numbers.len() / 3).min(vertex_floats.len() / 7);
+    let e = (edge_numbers.len() / 4).min(edge_floats.len() / 6);
+    (v.min(4096) - vertices).min(e.min(4096) - edges)
 }

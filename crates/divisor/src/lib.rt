@@ -3,32 +3,33 @@
 
 ghost use Rattle.std.specs.Prelude.{◌≡◌, ℕ, ◌+◌, ◌/◌, ◌≤◌, ◌<◌, length, get_or};
 ghost use Rattle.compress.specs.Rows.{edge_at, vertex_at};
+ghost use Rattle.compress.specs.Said.{said_if};
 ghost use Rattle.checks.specs.Causes.{vertices_cause, edges_cause};
-ghost use Rattle.nearest.specs.Ends.{said_ends};
-ghost use Rattle.loops.specs.Loop.{first_repeat, repeat_of};
+ghost use Rattle.loops.specs.Loop.{first_repeat};
 ghost use Rattle.divisor.specs.Divided.{second_pair, turned_divisor};
 
 use compress::Refusal;
-use loops::Loop;
+use loops::Pair;
 use nearest::Ends;
 
-// The places i1 and j1.
-#[derive(Clone, Copy)]
-struct Second {
-    i: usize,
-    j: usize,
-}
-
-fn second_pair(found: Loop, j0: usize, n: usize) -> Second
-    ensures { result ≡ second_pair (repeat_of found) j0 n }
+// The places i1 and j1: the pair found past j0, or j0 and the length.
+#[tactic(auto, using(crate::proofs::Divisors::second_in), unfolding(crate::specs::Divided::second_pair))]
+fn second_pair(found: Option<Pair>, j0: usize, wire: &[u32]) -> Pair
+    requires j0_in_wire { j0 < length wire.now }
+    requires found_value { found ≡ first_repeat (j0 + 1) wire.now }
+    ensures value { result ≡ second_pair (first_repeat (j0 + 1) wire.now) j0 (length wire.now) }
+    ensures in_order { result.earlier < result.later }
+    ensures inside { result.later ≤ length wire.now }
 {
-    match found {
-        Loop::Pair(i, j) => Second { i, j },
-        Loop::Nothing => Second { i: j0, j: n },
-    }
+    let lacking = Pair {
+        earlier: j0,
+        later: wire.len(),
+    };
+    found.unwrap_or(lacking)
 }
 
 // `non_simple_wire_divisor`, for a wire that is turned so that the earlier place is 0 and the later one j0. `found` was found past j0.
+#[tactic(auto, using(nearest::proofs::Fronts::in_tables), unfolding(crate::specs::Divided::turned_divisor, crate::specs::Divided::divided_by))]
 pub fn divide(
     vertex_numbers: &[u32],
     vertex_floats: &[f64],
@@ -38,24 +39,24 @@ pub fn divide(
     edges: usize,
     wire: &[u32],
     j0: usize,
-    found: Loop,
-) -> Ends
-    requires vertices_value { (vertices_cause vertex_numbers.now vertex_floats.now vertices ≡ 0) × (edges_cause vertices edge_numbers.now edge_floats.now edges ≡ 0) }
-    requires j0_nonzero { (0 < j0) × (j0 < length wire.now) × (length wire.now ≤ 1024) × ((k : ℕ) → k < length wire.now → get_or wire.now k 0 / 2 < edges) }
-    requires found_value { repeat_of found ≡ first_repeat (j0 + 1) wire.now }
-    ensures { said_ends result ≡ turned_divisor (edge_at edge_numbers.now edge_floats.now) (vertex_at vertex_numbers.now vertex_floats.now) wire.now j0 }
+    found: Option<Pair>,
+) -> Result<Option<Ends>, Refusal>
+    requires vertices_sound { vertices_cause vertex_numbers.now vertex_floats.now vertices ≡ 0 }
+    requires edges_sound { edges_cause vertices edge_numbers.now edge_floats.now edges ≡ 0 }
+    requires j0_in_wire { (0 < j0) × (j0 < length wire.now) }
+    requires wire_size { length wire.now ≤ 1024 }
+    requires wire_in_table { (k : ℕ) → k < length wire.now → get_or wire.now k 0 / 2 < edges }
+    requires found_value { found ≡ first_repeat (j0 + 1) wire.now }
+    ensures { said_if (λ e. e) result ≡ turned_divisor (edge_at edge_numbers.now edge_floats.now) (vertex_at vertex_numbers.now vertex_floats.now) wire.now j0 }
 {
-    let s = second_pair(found, j0, wire.len());
-    let a = s.i;
-    let b = s.j;
-    let k0 = (j0 + 1) / 2;
-    let k1 = (a + b + 1) / 2;
+    let second = second_pair(found, j0, wire);
+    let k0 = j0.div_ceil(2);
+    let k1 = (second.earlier + second.later).div_ceil(2);
     if k1 >= wire.len() {
-        return Ends::EndsRefused(Refusal::PastEnd);
+        return Err(Refusal::PastEnd);
     }
     let v0 = compress::front_at(edge_numbers, edge_floats, wire[k0]);
-    let c = a + 1;
-    nearest::nearest_ends(
+    Ok(nearest::nearest_ends(
         vertex_numbers,
         vertex_floats,
         edge_numbers,
@@ -63,7 +64,7 @@ pub fn divide(
         vertices,
         edges,
         &wire[1..j0],
-        &wire[c..b],
+        &wire[second.earlier + 1..second.later],
         v0,
-    )
+    ))
 }

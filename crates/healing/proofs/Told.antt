@@ -9,13 +9,13 @@ use mir.Facts.{to_z-of_z}
 use Rattle.compress.specs.declared.Refusal.{Refusal}
 use Rattle.compress.specs.Refusals.{refusal_number}
 use Rattle.compress.specs.Said.{Said, result, none, refused}
-use Rattle.compress.specs.Shell.{Counts}
+use Rattle.compress.specs.declared.Counts.{Counts}
 use Rattle.cutting.specs.Contract.{Outcome}
 use Rattle.joined.specs.Outcome.{JoinOutcome}
-use Rattle.wire_kinds.specs.Kinds.{SortOutcome}
-use Rattle.split.specs.Contract.{SplitCounts, SplitOutcome}
+use Rattle.split.specs.declared.Boundaries.{Boundaries}
+use Rattle.split.specs.Contract.{SplitOutcome}
 use Rattle.host_numbers.proofs.Fits.{number_fits}
-use Rattle.healing.specs.Host.{code_of, places_after, Told, HostShell, HostJoin, HostBoundaries, HostSort}
+use Rattle.healing.specs.Host.{code_of, places_after, Told, HostShell, HostJoin, HostBoundaries}
 
 -- a refusal's number comes back from an i32 as it is
 code_kept : (k : Refusal) (z : ℤ) → z ≡ pos (refusal_number k) → to_z w32 (of_z w32 z) ≡ pos (refusal_number k)
@@ -44,11 +44,8 @@ module _ {A B : Type 0} (f : B → Said A) {a b : B} {s : Said A} {before : A} (
 pub shell_told : {x o : Outcome} {before after : Counts} {r : ℤ} → x ≡ o → Told x.said before after r → HostShell o before after x.slices r
 shell_told q t = record { told = rw (← q) t; lent = ap (λ (o : Outcome). o.slices) q }
 
-pub sort_told : {x o : SortOutcome} {before after : ℕ} {r : ℤ} → x ≡ o → Told x.said before after r → HostSort o before after x.opens x.closed r
-sort_told q t = rw (← q) (record { told = t; opens = refl; closed = refl })
-
 pub join_told : {x o : JoinOutcome} {before after : ℕ} {r : ℤ} → x ≡ o → Told x.said before after r → HostJoin o before after x.us x.ls r
 join_told q t = rw (← q) (record { told = t; uses = refl; lengths = refl })
 
-pub boundaries_told : {x o : SplitOutcome} {before after : SplitCounts} {r : ℤ} → x ≡ o → Told x.said before after r → HostBoundaries o before after x.buffers r
+pub boundaries_told : {x o : SplitOutcome} {before after : Boundaries} {r : ℤ} → x ≡ o → Told x.said before after r → HostBoundaries o before after x.buffers r
 boundaries_told q t = rw (← q) (record { told = t; lent = refl })

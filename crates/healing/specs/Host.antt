@@ -2,14 +2,15 @@
 use Rattle.std.specs.Prelude.{◌≡◌, List, ℕ, Float, ℤ, pos, negsuc}
 use Rattle.compress.specs.declared.Uv.{Uv}
 use Rattle.compress.specs.Said.{Said, result, none, refused, on_result}
-use Rattle.compress.specs.Shell.{Slices, Counts}
+use Rattle.compress.specs.declared.Counts.{Counts}
+use Rattle.compress.specs.Shell.{Slices}
 use Rattle.cutting.specs.Contract.{Outcome}
 use Rattle.joined.specs.Outcome.{JoinOutcome}
-use Rattle.split.specs.Contract.{SplitCounts, SplitOutcome}
+use Rattle.split.specs.declared.Boundaries.{Boundaries}
+use Rattle.split.specs.Contract.{SplitOutcome}
 use Rattle.split_causes.specs.Causes.{Buffers}
 use Rattle.wire_kinds.specs.declared.BoundaryType.{BoundaryType}
-use Rattle.host_numbers.specs.Numbers.{boundary_number}
-use Rattle.wire_kinds.specs.Kinds.{SortOutcome, boundary_type_said}
+use Rattle.wire_kinds.specs.Kinds.{boundary_number, SortOutcome, boundary_type_said}
 
 -- 0 for a result, -1 for "none", and a refusal's own number
 abbrev pub code_of : {A : Type 0} → Said A → ℤ
@@ -28,6 +29,10 @@ pub record Told {A : Type 0} (s : Said A) (before after : A) (r : ℤ) : Type 0 
   pub code : r ≡ code_of s
   pub places : after ≡ places_after s before
 
+-- a point, by its two numbers
+abbrev pub uv_of : Float → Float → Uv
+uv_of u v = record { u = u; v = v }
+
 -- ---- a call that changes a shell, for a host: the closed-edge pass, or one cut
 pub record HostShell (o : Outcome) (before after : Counts) (slices : Slices) (r : ℤ) : Type 0 where
   pub told : Told o.said before after r
@@ -40,7 +45,7 @@ pub record HostJoin (o : JoinOutcome) (before after : ℕ) (us ls : List ℕ) (r
   pub lengths : ls ≡ o.ls
 
 -- ---- the split, for a host
-pub record HostBoundaries (o : SplitOutcome) (before after : SplitCounts) (buffers : Buffers) (r : ℤ) : Type 0 where
+pub record HostBoundaries (o : SplitOutcome) (before after : Boundaries) (buffers : Buffers) (r : ℤ) : Type 0 where
   pub told : Told o.said before after r
   pub lent : buffers ≡ o.buffers
 

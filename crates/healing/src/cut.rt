@@ -3,8 +3,6 @@ ghost use Rattle.cutting.specs.Contract.{lent_of};
 ghost use Rattle.one_cut.specs.Contract.{cut_outcome};
 ghost use Rattle.healing.specs.Host.{HostShell};
 
-use cutting::Split;
-
 // Edge number `edge` is cut by the cuts in `cuts`, four floats each: parameter, x, y, z. No cut changes nothing, one cuts the edge and mends
 // every wire, in place, and two or more are refused (14). 0: done, and the three places hold the counts of vertices, edges and uses. Else the
 // number of the refusal, and nothing lent is changed.
@@ -43,16 +41,12 @@ pub extern "C" fn kaugrenna_cut_edge_by_intersections(
         cut_count,
     );
     match answer {
-        Split::Done {
-            vertices: v,
-            edges: e,
-            uses: n,
-        } => {
-            *vertices_out = v;
-            *edges_out = e;
-            *uses_out = n;
+        Ok(n) => {
+            *vertices_out = n.vertices;
+            *edges_out = n.edges;
+            *uses_out = n.uses;
             0
         }
-        Split::Refused(r) => host_numbers::refusal_code(r),
+        Err(r) => host_numbers::refusal_code(r),
     }
 }

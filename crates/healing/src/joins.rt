@@ -2,8 +2,6 @@
 ghost use Rattle.join.specs.Contract.{join_outcome};
 ghost use Rattle.healing.specs.Host.{HostJoin};
 
-use joined::Join;
-
 // The two open wires and the first new wire that holds v0 become one wire, which replaces that new wire, in place. 0: done, and the place holds
 // how many uses the new wires have now. -1: something is not found. Else the number of the refusal. After -1 and a refusal nothing lent is changed.
 #[unsafe(no_mangle)]
@@ -41,11 +39,11 @@ pub extern "C" fn kaugrenna_connect_open_boundaries(
         v1,
     );
     match answer {
-        Join::Joined(n) => {
+        Ok(Some(n)) => {
             *uses_out = n;
             0
         }
-        Join::NoJoin => -1,
-        Join::JoinRefused(r) => host_numbers::refusal_code(r),
+        Ok(None) => -1,
+        Err(r) => host_numbers::refusal_code(r),
     }
 }

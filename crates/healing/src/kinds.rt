@@ -1,9 +1,8 @@
 // The calls for hosts on the kind of a wire: the kind of one, and the sorting of wires into open and closed ones.
 ghost use Rattle.wire_kinds.specs.Kinds.{sort_wires};
-ghost use Rattle.healing.specs.Host.{Told, HostSort, host_kind};
+ghost use Rattle.healing.specs.Host.{Told, HostSort, uv_of, host_kind};
 
 use compress::Uv;
-use wire_kinds::{Sorted, WireKind};
 
 // The kind of a wire, from its first point, its last point and its area. 0: done, and `kind_out` holds 0 for Positive, 1 for Negative
 // and 2 for NotClosed. Else the number of the refusal, and `kind_out` is not changed.
@@ -16,17 +15,16 @@ pub extern "C" fn kaugrenna_boundary_type(
     area: f64,
     kind_out: &mut u32,
 ) -> i32
-    ensures { Told (host_kind (record { u = u0; v = v0 }) (record { u = u1; v = v1 }) area) kind_out.old kind_out.new result }
+    ensures { Told (host_kind (uv_of u0 v0) (uv_of u1 v1) area) kind_out.old kind_out.new result }
 {
     let a = Uv { u: u0, v: v0 };
     let b = Uv { u: u1, v: v1 };
-    let answer = wire_kinds::boundary_type(a, b, area);
-    match answer {
-        WireKind::Is(t) => {
-            *kind_out = host_numbers::boundary_number(t);
+    match wire_kinds::boundary_type(a, b, area) {
+        Ok(t) => {
+            *kind_out = u32::from(t);
             0
         }
-        WireKind::NoKind(r) => host_numbers::refusal_code(r),
+        Err(r) => host_numbers::refusal_code(r),
     }
 }
 
@@ -42,13 +40,12 @@ pub extern "C" fn kaugrenna_sort_wires(
 ) -> i32
     ensures { HostSort (sort_wires ends.now wires «open».old closed.old) closed_out.old closed_out.new «open».new closed.new result }
 {
-    let answer = wire_kinds::sort_wires(ends, wires, open, closed);
-    match answer {
-        Sorted::Two(n) => {
+    match wire_kinds::sort_wires(ends, wires, open, closed) {
+        Ok(Some(n)) => {
             *closed_out = n;
             0
         }
-        Sorted::Nothing => -1,
-        Sorted::Unsorted(r) => host_numbers::refusal_code(r),
+        Ok(None) => -1,
+        Err(r) => host_numbers::refusal_code(r),
     }
 }

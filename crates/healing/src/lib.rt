@@ -12,8 +12,6 @@ ghost use Rattle.cutting.specs.Contract.{lent_of};
 ghost use Rattle.split_closed_edges.specs.Contract.{outcome_of};
 ghost use Rattle.healing.specs.Host.{HostShell};
 
-use cutting::Split;
-
 // Every closed edge is cut and every wire mended, in place. 0: done, and the three places hold the new counts of vertices, edges and uses.
 // Else the number of the refusal, and nothing lent is changed.
 #[unsafe(no_mangle)]
@@ -45,16 +43,12 @@ pub extern "C" fn kaugrenna_split_closed_edges(
         wires,
     );
     match answer {
-        Split::Done {
-            vertices: v,
-            edges: e,
-            uses: n,
-        } => {
-            *vertices_out = v;
-            *edges_out = e;
-            *uses_out = n;
+        Ok(n) => {
+            *vertices_out = n.vertices;
+            *edges_out = n.edges;
+            *uses_out = n.uses;
             0
         }
-        Split::Refused(r) => host_numbers::refusal_code(r),
+        Err(r) => host_numbers::refusal_code(r),
     }
 }

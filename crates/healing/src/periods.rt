@@ -1,9 +1,8 @@
 // The calls for hosts that take periods: unwrapping and the nearest copy. A period is lent as a kind, 0 absent and 1 given, and a number.
 ghost use Rattle.host_numbers.specs.Numbers.{host_mindiff, host_copy};
-ghost use Rattle.healing.specs.Host.{Told};
+ghost use Rattle.healing.specs.Host.{Told, uv_of};
 
 use compress::Uv;
-use periodic::{NearestCopy, Unwrapped};
 
 // u, moved by whole periods to where it is nearest to u0. 0: done, and `out` holds the number.
 // Else the number of the refusal, and `out` is not changed.
@@ -17,13 +16,12 @@ pub extern "C" fn kaugrenna_get_mindiff(
 ) -> i32
     ensures { Told (host_mindiff u u0 period_kind period) out.old out.new result }
 {
-    let answer = host_numbers::unwrap_asked(u, u0, period_kind, period);
-    match answer {
-        Unwrapped::Number(x) => {
+    match host_numbers::unwrap_asked(u, u0, period_kind, period) {
+        Ok(x) => {
             *out = x;
             0
         }
-        Unwrapped::Refused(r) => host_numbers::refusal_code(r),
+        Err(r) => host_numbers::refusal_code(r),
     }
 }
 
@@ -42,17 +40,17 @@ pub extern "C" fn kaugrenna_nearest_copy(
     u_out: &mut f64,
     v_out: &mut f64,
 ) -> i32
-    ensures { Told (host_copy (record { u = pu; v = pv }) (record { u = qu; v = qv }) u_kind u_period v_kind v_period) (record { u = u_out.old; v = v_out.old }) (record { u = u_out.new; v = v_out.new }) result }
+    ensures { Told (host_copy (uv_of pu pv) (uv_of qu qv) u_kind u_period v_kind v_period)
+        (uv_of u_out.old v_out.old) (uv_of u_out.new v_out.new) result }
 {
     let p = Uv { u: pu, v: pv };
     let q = Uv { u: qu, v: qv };
-    let answer = host_numbers::copy_asked(p, q, u_kind, u_period, v_kind, v_period);
-    match answer {
-        NearestCopy::At(c) => {
+    match host_numbers::copy_asked(p, q, u_kind, u_period, v_kind, v_period) {
+        Ok(c) => {
             *u_out = c.u;
             *v_out = c.v;
             0
         }
-        NearestCopy::NoCopy(r) => host_numbers::refusal_code(r),
+        Err(r) => host_numbers::refusal_code(r),
     }
 }

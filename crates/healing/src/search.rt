@@ -1,9 +1,26 @@
 // The calls for hosts on wires and vertices: nearest ends, and the non-simple search.
+ghost use Rattle.compress.specs.Said.{said_if};
 ghost use Rattle.correction.specs.Correction.{nearest_correction};
 ghost use Rattle.non_simple.specs.Divisor.{find_non_simple};
 ghost use Rattle.healing.specs.Host.{Told};
 
+use compress::Refusal;
 use nearest::Ends;
+
+// What a host is told of two vertices. 0: done, and the two places hold them. -1: there are none. Else the number of the refusal.
+fn tell(answer: Result<Option<Ends>, Refusal>, v0_out: &mut u32, v1_out: &mut u32) -> i32
+    ensures { Told (said_if (λ e. e) answer) (record { v0 = v0_out.old; v1 = v1_out.old }) (record { v0 = v0_out.new; v1 = v1_out.new }) result }
+{
+    match answer {
+        Ok(Some(ends)) => {
+            *v0_out = ends.v0;
+            *v1_out = ends.v1;
+            0
+        }
+        Ok(None) => -1,
+        Err(r) => host_numbers::refusal_code(r),
+    }
+}
 
 // From v0 the nearest front of the second stretch, from there the nearest front of the first. 0: done, and the two places hold a vertex of the
 // first stretch and one of the second. -1: a stretch is empty. Else the number of the refusal. After -1 and a refusal nothing lent is changed.
@@ -38,15 +55,7 @@ pub extern "C" fn kaugrenna_nearest_correction(
         second_count,
         v0,
     );
-    match answer {
-        Ends::Between(a, b) => {
-            *v0_out = a;
-            *v1_out = b;
-            0
-        }
-        Ends::NoEnds => -1,
-        Ends::EndsRefused(r) => host_numbers::refusal_code(r),
-    }
+    tell(answer, v0_out, v1_out)
 }
 
 // Of the wires in order the first that uses an edge twice and can be divided. 0: done, and the two places hold the vertices between which it
@@ -78,13 +87,5 @@ pub extern "C" fn kaugrenna_find_non_simple_wire_divisor(
         edges,
         wires,
     );
-    match answer {
-        Ends::Between(a, b) => {
-            *v0_out = a;
-            *v1_out = b;
-            0
-        }
-        Ends::NoEnds => -1,
-        Ends::EndsRefused(r) => host_numbers::refusal_code(r),
-    }
+    tell(answer, v0_out, v1_out)
 }

@@ -3,8 +3,6 @@ ghost use Rattle.split_causes.specs.Causes.{lent_split};
 ghost use Rattle.split.specs.Contract.{split_outcome};
 ghost use Rattle.healing.specs.Host.{HostBoundaries};
 
-use split::Boundaries;
-
 // The wires to be rebuilt are rebuilt along the divisor, a list of vertices with their uv points, two floats each: the new edges are appended to the
 // edge table, and the answered wires go to `uses` and `lengths`. 0: done, and the three places hold the counts of wires, of their uses and of
 // edges. Else the number of the refusal, and nothing lent is changed.
@@ -51,16 +49,12 @@ pub extern "C" fn kaugrenna_split_boundaries_by_divisor(
         surface,
     );
     match answer {
-        Boundaries::Split {
-            wires: w,
-            uses: n,
-            edges: e,
-        } => {
-            *wires_out = w;
-            *uses_out = n;
-            *edges_out = e;
+        Ok(made) => {
+            *wires_out = made.wires;
+            *uses_out = made.uses;
+            *edges_out = made.edges;
             0
         }
-        Boundaries::SplitRefused(r) => host_numbers::refusal_code(r),
+        Err(refusal) => host_numbers::refusal_code(refusal),
     }
 }

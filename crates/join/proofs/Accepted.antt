@@ -1,4 +1,4 @@
--- What an input of a join without a cause is, and that its cause is a number of the table.
+-- What an input of a join without a cause is, and the two ways out of its checks.
 -- Assumes nothing.
 use mathlib.Core.Path.{◌≡◌, ap, ◌∙◌}
 use mathlib.Core.List.{List}
@@ -14,10 +14,13 @@ use Rattle.compress.specs.Wires.{total, wires_of}
 use Rattle.checks.specs.Causes.{when, count_cause, vertex_number_cause, edges_cause, uses_cause}
 use Rattle.checks.proofs.Accepted.{EdgesAccepted, passed, not_when, edges_accepted, uses_in}
 use Rattle.checks.proofs.Lowest.{lower_none}
-use Rattle.checks.proofs.Small.{when_small, pick_small, lower_small, count_small, vertex_number_small, edges_small, uses_small, answers}
+use Rattle.std.specs.Prelude.{Err}
+use Rattle.compress.specs.declared.Refusal.{Refusal}
+use Rattle.compress.specs.Refusals.{refusal_number}
+use Rattle.compress.proofs.Refused.{said_refused, said_checked}
 use Rattle.join.specs.Contract.{join_wires_cause, empty_cause, join_cause, join_outcome}
 use Rattle.join.specs.Join.{connected}
-use Rattle.joined.specs.Outcome.{JoinOutcome, join_leaves}
+use Rattle.joined.specs.Outcome.{JoinOutcome, leaves_join, join_leaves}
 use Rattle.laying.specs.Steps.{Readable}
 use Rattle.joined.specs.Steps.{Joinable}
 
@@ -78,35 +81,14 @@ module _ (en : List ℕ) (ef : List Float) (a b us ls : List ℕ) (v e n m k v0 
         };
       }
 
-  wires_small : join_wires_cause e a n b m us ls k ≤ 15
-  unfolding join_wires_cause
-  wires_small =
-      let t = total (take k ls) in
-      pick_small (ltb 64 (k + 2)) _
-      (pick_small (ltb (length ls) k) _
-      (pick_small (ltb (length a) n) _
-      (pick_small (ltb (length b) m) _
-      (pick_small (ltb 1024 (n + m + t)) _
-      (pick_small (ltb (length us) t) _
-      (lower_small (uses_cause e a n) _ (uses_small e a n) (lower_small (uses_cause e b m) _ (uses_small e b m) (uses_small e us t))))))))
+-- the call: a refusal leaves both slices as they were, and without one it leaves what the join of the open wires leaves
+pub join_refused : (en : List ℕ) (ef : List Float) (a b us ls : List ℕ) (v e n m k v0 v1 : ℕ) (r : Refusal) → refusal_number r ≡ join_cause en ef a b us ls v e n m k v0 v1
+    → leaves_join (Err r) us ls ≡ join_outcome en ef a b us ls v e n m k v0 v1
+unfolding join_outcome
+join_refused en ef a b us ls v e n m k v0 v1 r q = ap (join_leaves us ls) (said_refused r _ _ q)
 
-  empty_small : empty_cause n m ≤ 15
-  unfolding empty_cause
-  empty_small = lower_small (when (eqb n 0) 15) _ (when_small (eqb n 0) 15 (omega arith)) (when_small (eqb m 0) 15 (omega arith))
-
-  pub join_small : join_cause en ef a b us ls v e n m k v0 v1 ≤ 15
-  unfolding join_cause
-  join_small =
-      lower_small (count_cause 4096 v) _ (count_small 4096 v)
-      (lower_small (edges_cause v en ef e) _ (edges_small v en ef e)
-      (lower_small (vertex_number_cause v v0) _ (vertex_number_small v v0)
-      (lower_small (vertex_number_cause v v1) _ (vertex_number_small v v1)
-      (lower_small (join_wires_cause e a n b m us ls k) (empty_cause n m) wires_small empty_small))))
-
--- the call: without a cause it leaves what the join of the open wires leaves
-pub join_told : (en : List ℕ) (ef : List Float) (a b us ls : List ℕ) (v e n m k v0 v1 c : ℕ) {o : JoinOutcome}
-    → c ≡ join_cause en ef a b us ls v e n m k v0 v1 → c ≡ 0
+pub join_told : (en : List ℕ) (ef : List Float) (a b us ls : List ℕ) (v e n m k v0 v1 : ℕ) {o : JoinOutcome} → 0 ≡ join_cause en ef a b us ls v e n m k v0 v1
     → o ≡ join_leaves us ls (connected (edge_at en ef) v0 v1 (take n a) (take m b) (wires_of us (take k ls)))
     → o ≡ join_outcome en ef a b us ls v e n m k v0 v1
 unfolding join_outcome
-join_told en ef a b us ls v e n m k v0 v1 c q z t = t ∙ ap (join_leaves us ls) (answers _ _ _ q z)
+join_told en ef a b us ls v e n m k v0 v1 q t = t ∙ ap (join_leaves us ls) (said_checked _ _ q)

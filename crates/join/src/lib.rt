@@ -2,6 +2,7 @@
 #![tactic(auto)]
 
 ghost use Rattle.std.specs.Prelude.{◌≡◌, ◌≤◌, ◌<◌, length, take};
+ghost use Rattle.compress.specs.Refusals.{cause_of};
 ghost use Rattle.compress.specs.Rows.{edge_at};
 ghost use Rattle.compress.specs.Wires.{wires_of};
 ghost use Rattle.joined.specs.Outcome.{leaves_join, join_leaves};
@@ -9,7 +10,7 @@ ghost use Rattle.joined.specs.Steps.{Joinable};
 ghost use Rattle.join.specs.Join.{connected_at, connected};
 ghost use Rattle.join.specs.Contract.{join_wires_cause, empty_cause, join_cause, join_outcome};
 
-use joined::Join;
+use compress::{Checked, Refusal};
 
 // By index, the place of v0 in the open wire that holds it: where it is not 0, the two open wires change places.
 fn connect_at(
@@ -24,7 +25,7 @@ fn connect_at(
     v1: u32,
     i: usize,
     index: usize,
-) -> Join
+) -> Result<Option<usize>, Refusal>
     requires { (Joinable edge_numbers.now edge_floats.now first.now second.now uses.old lengths.old wires) × (i ≤ length first.now) × (i ≤ length second.now) }
     ensures { leaves_join result uses.new lengths.new ≡ join_leaves uses.old lengths.old (connected_at (edge_at edge_numbers.now edge_floats.now) v0 v1 first.now second.now (wires_of uses.old (take wires lengths.old)) i index) }
 {
@@ -67,7 +68,7 @@ fn connect_checked(
     wires: usize,
     v0: u32,
     v1: u32,
-) -> Join
+) -> Result<Option<usize>, Refusal>
     requires { (Joinable edge_numbers.now edge_floats.now first.now second.now uses.old lengths.old wires) × (0 < length first.now) × (0 < length second.now) }
     ensures { leaves_join result uses.new lengths.new ≡ join_leaves uses.old lengths.old (connected (edge_at edge_numbers.now edge_floats.now) v0 v1 first.now second.now (wires_of uses.old (take wires lengths.old))) }
 {
@@ -103,7 +104,7 @@ fn connect_checked(
             q,
         );
     }
-    Join::NoJoin
+    Ok(None)
 }
 
 // Causes 1 and 3 of all wires of a join.
@@ -116,45 +117,45 @@ fn join_wires_cause(
     uses: &[u32],
     lengths: &[u32],
     wires: usize,
-) -> u32
-    ensures { result ≡ join_wires_cause edges first.now n second.now m uses.now lengths.now wires }
+) -> Checked
+    ensures { cause_of result ≡ join_wires_cause edges first.now n second.now m uses.now lengths.now wires }
 {
     if wires > 62 {
-        return 1;
+        return Err(Refusal::Malformed);
     }
     if lengths.len() < wires {
-        return 1;
+        return Err(Refusal::Malformed);
     }
     if first.len() < n {
-        return 1;
+        return Err(Refusal::Malformed);
     }
     if second.len() < m {
-        return 1;
+        return Err(Refusal::Malformed);
     }
     if n > 1024 {
-        return 1;
+        return Err(Refusal::Malformed);
     }
     if m > 1024 - n {
-        return 1;
+        return Err(Refusal::Malformed);
     }
     let sum = checks::total_uses(lengths, wires);
     if sum > 1024 - n - m {
-        return 1;
+        return Err(Refusal::Malformed);
     }
     if uses.len() < sum {
-        return 1;
+        return Err(Refusal::Malformed);
     }
     let a = checks::use_rows(edges, first, n);
     let b = checks::use_rows(edges, second, m);
     checks::lower(a, checks::lower(b, checks::use_rows(edges, uses, sum)))
 }
 
-fn empty_cause(n: usize, m: usize) -> u32
-    ensures { result ≡ empty_cause n m }
+fn empty_cause(n: usize, m: usize) -> Checked
+    ensures { cause_of result ≡ empty_cause n m }
 {
     checks::lower(
-        checks::cause_when(n == 0, 15),
-        checks::cause_when(m == 0, 15),
+        checks::cause_when(n == 0, Refusal::EmptyOpenWire),
+        checks::cause_when(m == 0, Refusal::EmptyOpenWire),
     )
 }
 
@@ -172,8 +173,8 @@ fn join_cause(
     wires: usize,
     v0: u32,
     v1: u32,
-) -> u32
-    ensures { result ≡ join_cause edge_numbers.now edge_floats.now first.now second.now uses.now lengths.now vertices edges first_count second_count wires v0 v1 }
+) -> Checked
+    ensures { cause_of result ≡ join_cause edge_numbers.now edge_floats.now first.now second.now uses.now lengths.now vertices edges first_count second_count wires v0 v1 }
 {
     let v = checks::count(4096, vertices);
     let e = tables::edges(vertices, edge_numbers, edge_floats, edges);
@@ -212,10 +213,10 @@ pub fn connect_open_boundaries(
     wires: usize,
     v0: u32,
     v1: u32,
-) -> Join
+) -> Result<Option<usize>, Refusal>
     ensures { leaves_join result uses.new lengths.new ≡ join_outcome edge_numbers.now edge_floats.now first.now second.now uses.old lengths.old vertices edges first_count second_count wires v0 v1 }
 {
-    let cause = join_cause(
+    join_cause(
         edge_numbers,
         edge_floats,
         first,
@@ -229,10 +230,7 @@ pub fn connect_open_boundaries(
         wires,
         v0,
         v1,
-    );
-    if cause != 0 {
-        return Join::JoinRefused(compress::refusal_of(cause));
-    }
+    )?;
     connect_checked(
         edge_numbers,
         edge_floats,

@@ -7,13 +7,13 @@ use Prim.Native.Nat.{ℕ, zero, suc, ◌+◌, ◌-◌, ◌≤◌, ◌<◌}
 use native.Mathlib.Numerals.{add-one}
 use native.Mathlib.Omega.{arith}
 use lib.ListN.{length, get_or, set, take, drop, length-append, length-drop, length-set, take-append-drop}
-use lib.Seq.{take-add, take_at, drop-drop, take-take, length-take-le, take-set-lt, drop-set-lt, get_or-take, drop-append-add}
+use lib.Seq.{take-add, drop-drop, take-take, length-take-le, take-set-lt, drop-set-lt, get_or-take}
 use Rattle.compress.specs.declared.Refusal.TheVariants.{NoRoom}
 use Rattle.compress.specs.Shell.{uses_fit}
 use Rattle.compress.specs.Wires.{total, wires_of, uses_of, lengths_of, over}
 use Rattle.compress.proofs.Wires.{wire_in}
-use Rattle.joined.specs.declared.Join.TheVariants.{Joined, JoinRefused}
-use Rattle.joined.specs.Outcome.{leaves_join, stored_in}
+use Rattle.std.specs.Prelude.{Ok, Err}
+use Rattle.joined.specs.Outcome.{leaves_stored, stored_in}
 use Rattle.joined.specs.Steps.{replaced_in}
 use Rattle.laying.specs.Steps.{Lying}
 
@@ -139,12 +139,12 @@ module _ (us ls : List ℕ) (n w : ℕ) (L : Lying us ls n) (lt : w < n) where
       count_is : length (uses_of (set (wires_of us (take n ls)) w joined)) ≡ count_of
       count_is = rw (uses_are, length-append (take from us ++ joined), front_size, rest_size)
 
-      pub stored_full : uses_fit us count_of ≡ false → leaves_join (JoinRefused NoRoom) us ls ≡ stored_in us ls (set (wires_of us (take n ls)) w joined)
+      pub stored_full : uses_fit us count_of ≡ false → leaves_stored (Err NoRoom) us ls ≡ stored_in us ls (set (wires_of us (take n ls)) w joined)
       unfolding stored_in
       stored_full q = rw (count_is, q)
 
       pub stored_done : (us₁ : List ℕ) → uses_fit us count_of ≡ true → us₁ ≡ replaced_in us from (from + get_or ls w 0) rest_of joined
-          → leaves_join (Joined count_of) us₁ (set ls w (length joined)) ≡ stored_in us ls (set (wires_of us (take n ls)) w joined)
+          → leaves_stored (Ok count_of) us₁ (set ls w (length joined)) ≡ stored_in us ls (set (wires_of us (take n ls)) w joined)
       unfolding stored_in
       stored_done us₁ q e =
           let rest = take rest_of (drop (from + get_or ls w 0) us) in
@@ -152,26 +152,3 @@ module _ (us ls : List ℕ) (n w : ℕ) (L : Lying us ls n) (lt : w < n) where
           let u : us₁ ≡ over (uses_of (set (wires_of us (take n ls)) w joined)) us
           = e ∙ rw (count_is, uses_are) (sym (append_assoc front rest (drop count_of us) ∙ append_assoc (take from us) joined (rest ++ drop count_of us))) in
           rw (u, count_is, q, lengths_new)
-
--- ---- what stands behind the wire is put aside, the joined wire is written, and what was put aside is written behind it
-pub replaced : (us joined behind us₁ us₂ : List ℕ) (from to rest : ℕ) → from ≤ length us → behind ≡ take rest (drop to us) → length behind ≡ rest
-    → us₁ ≡ take from us ++ (joined ++ drop (from + length joined) us)
-    → us₂ ≡ take (from + length joined) us₁ ++ (behind ++ drop (from + length joined + length behind) us₁)
-    → us₂ ≡ replaced_in us from to rest joined
-replaced us joined behind us₁ us₂ from to rest h eb lb e₁ e₂ =
-    let front = take from us ++ joined in
-    let a = from + length joined in
-    let lf : length front ≡ a = rw (length-append, length-take-le from us h) in
-    let e : us₁ ≡ front ++ drop a us = e₁ ∙ sym (append_assoc (take from us) joined _) in
-    let t : take a us₁ ≡ front = rw e (take_at front (drop a us) a lf) in
-    let d : drop (a + length behind) us₁ ≡ drop (a + length behind) us
-    = rw (e, ← lf, drop-append-add front _ (length behind), lf) (drop-drop (length behind) a us) in
-    e₂ ∙ rw (t, d, lb, eb) (append_assoc (take from us) joined _)
-
--- the front of the buffer that holds what stood behind the wire
-pub kept_aside : (us buffer z : List ℕ) (to rest : ℕ) → to + rest ≤ length us → buffer ≡ take rest (take (length us - to) (drop to us)) ++ z
-    → take rest buffer ≡ take rest (drop to us)
-kept_aside us buffer z to rest h e =
-    let p : take rest (take (length us - to) (drop to us)) ≡ take rest (drop to us) = take-take rest (length us - to) (drop to us) (omega arith) in
-    let l : length (take rest (drop to us)) ≡ rest = length-take-le rest (drop to us) (rw length-drop (omega arith)) in
-    rw (e, p) (take_at (take rest (drop to us)) z rest l)

@@ -1,18 +1,10 @@
 -- What a join leaves: its answer, and the contents of the uses and the lengths of the new wires. Definitions only.
-use Rattle.std.specs.Prelude.{List, ℕ, length}
+use Rattle.std.specs.Prelude.{Option, Result, List, ℕ, length}
+use Rattle.compress.specs.declared.Refusal.{Refusal}
 use Rattle.compress.specs.Records.{pick}
-use Rattle.compress.specs.Refusals.{refusal_number}
-use Rattle.compress.specs.Said.{Said, result, none, refused}
+use Rattle.compress.specs.Said.{Said, result, none, refused, said_of, said_if}
 use Rattle.compress.specs.Shell.{uses_fit}
 use Rattle.compress.specs.Wires.{uses_of, lengths_of, over}
-use Rattle.joined.specs.declared.Join.{Join}
-use Rattle.joined.specs.declared.Join.TheVariants.{Joined, NoJoin, JoinRefused}
-
--- the answer's cases in document 01's terms: how many uses the new wires have now, "none", or the number of the refusal
-abbrev pub said_join : Join → Said ℕ
-said_join (Joined n) = result n
-said_join NoJoin = none
-said_join (JoinRefused r) = refused (refusal_number r)
 
 -- what a call leaves: its answer, and the contents of the uses and the lengths of the new wires
 pub record JoinOutcome : Type 0 where
@@ -20,8 +12,13 @@ pub record JoinOutcome : Type 0 where
   pub us : List ℕ
   pub ls : List ℕ
 
-abbrev pub leaves_join : Join → List ℕ → List ℕ → JoinOutcome
-leaves_join r us ls = record { said = said_join r; us = us; ls = ls }
+-- the answer in document 01's terms: how many uses the new wires have now, "none", or the number of the refusal
+abbrev pub leaves_join : Result (Option ℕ) Refusal → List ℕ → List ℕ → JoinOutcome
+leaves_join r us ls = record { said = said_if (λ n. n) r; us = us; ls = ls }
+
+-- the same of an answer that is never "none"
+abbrev pub leaves_stored : Result ℕ Refusal → List ℕ → List ℕ → JoinOutcome
+leaves_stored r us ls = record { said = said_of (λ n. n) r; us = us; ls = ls }
 
 -- "6 over a result arises only where no other number and no "none" does. A "none" changes nothing lent."
 unfoldable pub stored_in : List ℕ → List ℕ → List (List ℕ) → JoinOutcome

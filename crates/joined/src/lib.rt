@@ -7,80 +7,42 @@ ghost use Rattle.compress.specs.Wires.{wires_of};
 ghost use Rattle.wires.specs.Turn.{turned};
 ghost use Rattle.laying.specs.Steps.{Lying};
 ghost use Rattle.joined.specs.Joined.{joined_to};
-ghost use Rattle.joined.specs.Outcome.{leaves_join, stored_in, join_leaves};
+ghost use Rattle.joined.specs.Outcome.{leaves_stored, leaves_join, stored_in, join_leaves};
 ghost use Rattle.joined.specs.Steps.{Joinable, replaced_in};
 
 use compress::Refusal;
 
-// The answer of a join: how many uses the new wires have now, "none", or why the call was turned away.
-#[derive(Clone, Copy)]
-pub enum Join {
-    Joined(usize),
-    NoJoin,
-    JoinRefused(Refusal),
-}
-
-// `part` is written over `out` from place `at` on.
-fn lay(part: &[u32], out: &mut [u32], at: usize)
-    requires { at + length part.now ≤ length out.old }
-    ensures { out.new ≡ take at out.old ++ (part.now ++ drop (at + length part.now) out.old) }
-{
-    rows::copy(part, part.len(), &mut out[at..]);
-}
-
-// What stands behind the wire that is replaced, `rest` uses from place `to` on, is put aside, `joined` is written from place `from` on, and
-// what was put aside behind it.
-fn replace_through(
-    uses: &mut [u32],
-    from: usize,
-    to: usize,
-    rest: usize,
-    joined: &[u32],
-    behind: &mut [u32],
-)
-    requires rest_in_bounds { (to + rest ≤ length uses.old) × (from + length joined.now + rest ≤ length uses.old) }
-    requires rest_in_bounds_2 { rest ≤ length behind.old }
-    ensures { uses.new ≡ replaced_in uses.old from to rest joined.now }
-{
-    rows::copy(&uses[to..], rest, behind);
-    lay(joined, uses, from);
-    lay(&behind[..rest], uses, from + joined.len());
-}
-
-// The same, by way of an array of its own: a small one where that has room, since to zero it takes time.
+// The uses from place `from` up to `to` are replaced by `joined`, and the `rest` uses behind them come to stand behind it.
 fn replace_uses(uses: &mut [u32], from: usize, to: usize, rest: usize, joined: &[u32])
-    requires { (to + rest ≤ length uses.old) × (from + length joined.now + rest ≤ length uses.old) × (rest ≤ 1024) }
+    requires { (from ≤ to) × (to + rest ≤ length uses.old) × (from + length joined.now + rest ≤ length uses.old) }
     ensures { uses.new ≡ replaced_in uses.old from to rest joined.now }
 {
-    if rest <= 64 {
-        let mut behind = [0u32; 64];
-        return replace_through(uses, from, to, rest, joined, &mut behind);
-    }
-    let mut behind = [0u32; 1024];
-    replace_through(uses, from, to, rest, joined, &mut behind)
+    let behind = from + joined.len();
+    uses.copy_within(to..to + rest, behind);
+    uses[from..behind].copy_from_slice(joined);
 }
 
-// The wire w is replaced by `joined`, where there is room.
+// The wire w is replaced by `joined`, where there is room: how many uses the wires have then.
 fn replace_wire(
     uses: &mut [u32],
     lengths: &mut [u32],
     wires: usize,
     w: usize,
     joined: &[u32],
-) -> Join
+) -> Result<usize, Refusal>
     requires { (Lying uses.old lengths.old wires) × (w < wires) × (length joined.now ≤ 1024) }
-    ensures { leaves_join result uses.new lengths.new ≡ stored_in uses.old lengths.old (set (wires_of uses.old (take wires lengths.old)) w joined.now) }
+    ensures { leaves_stored result uses.new lengths.new ≡ stored_in uses.old lengths.old (set (wires_of uses.old (take wires lengths.old)) w joined.now) }
 {
     let from = checks::total_uses(lengths, w);
     let to = from + lengths[w] as usize;
     let rest = checks::total_uses(lengths, wires) - to;
     let count = from + joined.len() + rest;
     if !rows::uses_fit(uses, count) {
-        return Join::JoinRefused(Refusal::NoRoom);
+        return Err(Refusal::NoRoom);
     }
     replace_uses(uses, from, to, rest, joined);
     lengths[w] = joined.len() as u32;
-    Join::Joined(count)
+    Ok(count)
 }
 
 // The first open wire, turned by i, and the second are joined with the first new wire that holds v0.
@@ -95,17 +57,17 @@ pub fn join_turned(
     wires: usize,
     v0: u32,
     v1: u32,
-) -> Join
+) -> Result<Option<usize>, Refusal>
     requires { (Joinable edge_numbers.now edge_floats.now first.now second.now uses.old lengths.old wires) × (i ≤ length first.now) }
     ensures { leaves_join result uses.new lengths.new ≡ join_leaves uses.old lengths.old (joined_to (edge_at edge_numbers.now edge_floats.now) v0 v1 (turned i first.now) second.now (wires_of uses.old (take wires lengths.old))) }
 {
     let j = laying::find_index(edge_numbers, edge_floats, second, v1);
     if j >= second.len() {
-        return Join::NoJoin;
+        return Ok(None);
     }
     let w = laying::find_wire(edge_numbers, edge_floats, uses, lengths, wires, v0);
     if w >= wires {
-        return Join::NoJoin;
+        return Ok(None);
     }
     let from = checks::total_uses(lengths, w);
     let to = from + lengths[w] as usize;
@@ -123,7 +85,8 @@ pub fn join_turned(
         &mut out,
     );
     if n == 0 {
-        return Join::NoJoin;
+        return Ok(None);
     }
-    replace_wire(uses, lengths, wires, w, &out[..n])
+    let count = replace_wire(uses, lengths, wires, w, &out[..n])?;
+    Ok(Some(count))
 }

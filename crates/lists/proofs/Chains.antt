@@ -5,23 +5,16 @@ use native.Mathlib.Numerals.{add-one}
 use native.Mathlib.Omega.{arith}
 use mathlib.Core.Path.{◌≡◌, refl, sym, ap, subst, ◌∙◌}
 use mathlib.Core.Logic.{◌≢◌}
-use mathlib.Core.Bool.{Bool, true, false}
+use mathlib.Core.Bool.{Bool}
 use mathlib.Core.List.{List, [], ◌∷◌, ◌++◌, append-nil}
 use lib.ListN.{length, take, drop, get_or, set, length-append, length-set}
 use lib.Seq.{take-suc, take_all, take_at, get_or_at, get_or-set_same, get_or-set_other}
-use lib.Dec.{eqb}
-use borrow.Author.Tests.{eqb-true, eqb-false, ne_eqb}
+use borrow.Author.Tests.{ne_eqb}
+use Rattle.std.proofs.Common.{⊎_elim}
+use Rattle.std.proofs.lemmas.Bool.{cases_eq}
 use Rattle.lists.specs.Members.{without, put, at, sits, del}
 use Rattle.lists.proofs.Members.{at_same, at_other, at_more, filter_snoc}
 use Rattle.lists.specs.Lists.{Chain, none, some, entry_of, heads_after, nexts_after, Lists}
-
--- a case for each side of an equation of numbers
-pub same_or : {P : Type 0} (v w : ℕ) → (v ≡ w → P) → (v ≢ w → P) → P
-same_or {P} v w f g = go (eqb v w) refl
-  where
-    go : (t : Bool) → eqb v w ≡ t → P
-    go true e = f (eqb-true v w e)
-    go false e = g (eqb-false v w e)
 
 module _ (front : ℕ → ℕ) (us nx : List ℕ) (n v : ℕ) where
   pub chain_none : (h : ℕ) (l : List ℕ) → h ≡ 0 → Chain front us nx n v h l → l ≡ []
@@ -140,7 +133,7 @@ module _ (front : ℕ → ℕ) (us : List ℕ) where
           heads = set_all (λ (y : ℕ). y ≤ (i + 1) + 1) hd w (i + 2) (λ k. omega (arith, L.tables.heads k)) (omega arith);
           nexts = set_all (λ (y : ℕ). y ≤ i + 1) nx i m (λ k. omega (arith, L.tables.nexts k)) (omega (arith, L.tables.heads w));
         };
-        chains = λ v. same_or v w (same v) (other v);
+        chains = λ v. ⊎_elim (same v) (other v) (cases_eq v w);
         dropped = set_all (λ (y : ℕ). y ≢ 1) hd w (i + 2) L.dropped (λ e. omega arith);
       }
 
@@ -190,7 +183,7 @@ module _ (front : ℕ → ℕ) (us : List ℕ) where
           long_heads = length-set hd v x ∙ L.long_heads;
           long_nexts = L.long_nexts;
           tables = record { heads = set_all (λ (y : ℕ). y ≤ n + 1) hd v x L.tables.heads (entry_small (get_or nx p 0) n (L.tables.nexts p)); nexts = L.tables.nexts };
-          chains = λ w. same_or w v (same w) (other w);
+          chains = λ w. ⊎_elim (same w) (other w) (cases_eq w v);
           dropped = set_all (λ (y : ℕ). y ≢ 1) hd v x L.dropped (entry_not_empty (get_or nx p 0));
         }
 
@@ -220,7 +213,7 @@ module _ (front : ℕ → ℕ) (us : List ℕ) where
             long_heads = L.long_heads;
             long_nexts = length-set nx p 0 ∙ L.long_nexts;
             tables = record { heads = L.tables.heads; nexts = set_all (λ (y : ℕ). y ≤ n) nx p 0 L.tables.nexts (omega arith) };
-            chains = λ w. same_or w v (same w) (other w);
+            chains = λ w. ⊎_elim (same w) (other w) (cases_eq w v);
             dropped = L.dropped;
           }
 

@@ -1,47 +1,37 @@
 // The lists of uses by vertex: "uses go to their front vertex's list". The front and the back of a use, and the two tables that hold the lists.
 #![tactic(auto)]
 
-ghost use Rattle.std.specs.Prelude.{◌≡◌, ℕ, ◌+◌, ◌-◌, ◌/◌, ◌≤◌, ◌<◌, length, get_or, set};
+ghost use Rattle.std.specs.Prelude.{◌≡◌, ℕ, ◌+◌, ◌-◌, ◌/◌, ◌≤◌, ◌<◌, length, get_or, set, IfSome, unwrap_or};
 ghost use Rattle.lists.specs.Ends.{HasEnds, end_of, front_of, back_of};
 ghost use Rattle.lists.specs.Lists.{entry_of, heads_after, nexts_after, Tables, Lowest};
 
-pub fn wide(x: u16) -> usize
-    ensures { result ≡ x }
-{
-    x as usize
-}
-
-pub fn index(x: u32) -> usize
-    ensures { result ≡ x }
-{
-    x as usize
-}
-
 // End j of edge e: 0 is its first vertex number, 1 its second. From number `edges` on an edge is a pair of the divisor.
+#[tactic(auto, unfolding(crate::specs::Ends::end_of))]
 fn end_of(edge_numbers: &[u32], divisor: &[u32], edges: usize, e: usize, j: usize) -> u32
     requires { HasEnds edge_numbers.now divisor.now edges e × (j < 2) }
     ensures { result ≡ end_of edge_numbers.now divisor.now edges e j }
 {
     if e < edges {
-        return edge_numbers[e * 4 + j];
+        edge_numbers[e * 4 + j]
+    } else {
+        divisor[(e - edges) * 2 + j]
     }
-    divisor[(e - edges) * 2 + j]
 }
 
 fn front(edge_numbers: &[u32], divisor: &[u32], edges: usize, u: u32) -> usize
     requires { HasEnds edge_numbers.now divisor.now edges (u / 2) }
     ensures { result ≡ front_of edge_numbers.now divisor.now edges u }
 {
-    let k = index(u);
-    index(end_of(edge_numbers, divisor, edges, k / 2, k % 2))
+    let k = u as usize;
+    end_of(edge_numbers, divisor, edges, k / 2, k % 2) as usize
 }
 
 pub fn back(edge_numbers: &[u32], divisor: &[u32], edges: usize, u: u32) -> usize
     requires { HasEnds edge_numbers.now divisor.now edges (u / 2) }
     ensures { result ≡ back_of edge_numbers.now divisor.now edges u }
 {
-    let k = index(u);
-    index(end_of(edge_numbers, divisor, edges, k / 2, 1 - k % 2))
+    let k = u as usize;
+    end_of(edge_numbers, divisor, edges, k / 2, 1 - k % 2) as usize
 }
 
 // The entry of a vertex whose list goes on at `m`: "an emptied list is dropped".
@@ -49,20 +39,7 @@ fn entry(m: u16) -> u16
     requires { m < 65535 }
     ensures { result ≡ entry_of m }
 {
-    if m == 0 {
-        return 0;
-    }
-    m + 1
-}
-
-// Where the list of an entry goes on.
-fn chain(h: u16) -> u16
-    ensures { result ≡ h - 1 }
-{
-    if h == 0 {
-        return 0;
-    }
-    h - 1
+    if m == 0 { 0 } else { m + 1 }
 }
 
 // The use at place i goes to the end of the list of v.
@@ -71,7 +48,7 @@ fn push(head: &mut [u16; 4096], next: &mut [u16; 1024], v: usize, i: usize)
     ensures head_after { head.new ≡ set head.old v (i + 2) }
     ensures next_after { next.new ≡ set next.old i (get_or head.old v 0 - 1) }
 {
-    next[i] = chain(head[v]);
+    next[i] = head[v].saturating_sub(1);
     head[v] = (i + 2) as u16;
 }
 
@@ -82,7 +59,7 @@ pub fn pop(uses: &[u32], head: &mut [u16; 4096], next: &[u16; 1024], v: usize) -
     ensures value { result ≡ get_or uses.now (get_or head.old v 0 - 2) 0 }
     ensures head_after { head.new ≡ set head.old v (entry_of (get_or next.now (get_or head.old v 0 - 2) 0)) }
 {
-    let p = wide(head[v]) - 2;
+    let p = usize::from(head[v]) - 2;
     head[v] = entry(next[p]);
     uses[p]
 }
@@ -102,25 +79,16 @@ pub fn create_vemap(
     ensures head_after { head.new ≡ heads_after (front_of edge_numbers.now divisor.now edges) uses.now head.old (length uses.now) }
     ensures next_after { next.new ≡ nexts_after (front_of edge_numbers.now divisor.now edges) uses.now head.old next.old (length uses.now) }
 {
-    let mut i: usize = 0;
-    while i < uses.len() {
-        let v = front(edge_numbers, divisor, edges, uses[i]);
-        push(head, next, v, i);
-        i += 1;
+    for (i, u) in uses.iter().enumerate() {
+        push(head, next, front(edge_numbers, divisor, edges, *u), i);
     }
 }
 
-// The first vertex at or after `from` that has uses.
-pub fn lowest(head: &[u16; 4096], from: usize) -> usize
+// The first vertex at or after `from` that has uses, if there is one.
+pub fn lowest(head: &[u16; 4096], from: usize) -> Option<usize>
     requires { (from ≤ 4096) × ((w : ℕ) → w < from → get_or head.now w 0 ≤ 1) }
-    ensures { Lowest head.now result }
+    ensures least { Lowest head.now (unwrap_or result 4096) }
+    ensures in_table { IfSome result (λ v. v < 4096) }
 {
-    let mut v = from;
-    while v < 4096 {
-        if 1 < head[v] {
-            return v;
-        }
-        v += 1;
-    }
-    v
+    (from..4096).find(|v| 1 < head[*v])
 }

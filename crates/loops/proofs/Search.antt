@@ -1,177 +1,169 @@
 -- Where the loops of `find_loop` and `forget` stand: the table holds the map, and the search that is left finds what the whole one does.
 -- Assumes nothing.
 use mathlib.Core.Path.{◌≡◌, refl, ap, sym, ◌∙◌}
-use mathlib.Core.List.{List, ◌∷◌}
-use Prim.Native.Nat.{ℕ, ◌+◌, ◌-◌, ◌≤◌, ◌<◌}
+use mathlib.Core.List.{List, [], ◌∷◌}
+use Prim.Native.Nat.{ℕ, zero, suc, ◌+◌, ◌-◌, ◌≤◌, ◌<◌}
 use native.Mathlib.Numerals.{add-one}
 use native.Mathlib.Omega.{arith}
 use native.Mathlib.Decide.{ℕ_discrete}
-use lib.ListN.{length, get_or, set, drop, length-set, drop_of_length-le}
-use lib.Seq.{drop-cons, get_or-set_same, get_or-set_other}
+use lib.ListN.{length, get_or, set, take, drop, length-set, length-drop, drop_of_length-le}
+use lib.Seq.{drop-cons, take_all, get_or-drop, get_or-set_same, get_or-set_other}
 use borrow.Author.Tests.{eq-eqb, ne_eqb}
+use Rattle.std.proofs.lemmas.Grind.{common_steps}
+use Rattle.std.specs.Prelude.{Option, Some, None}
 use Rattle.compress.specs.Records.{edge_of_use}
-use Rattle.loops.specs.Loop.{Repeat, Place, nothing, insert, meet, searched, first_repeat, forgotten, remembered, table_after}
-use Rattle.loops.specs.Loop.Repeat.{none, pair}
-use Rattle.loops.specs.Loop.Place.{nowhere, at}
+use Rattle.loops.specs.Loop.{nothing, insert, pair, meet, searched, first_repeat, place_of, forgotten, remembered, table_after}
 
 -- the edge number at place k
 abbrev pub number_at : List ℕ → ℕ → ℕ
 number_at wire k = edge_of_use (get_or wire k 0)
 
+-- the uses from place i on, one of them apart
+uses_from : (us : List ℕ) (i : ℕ) → i < length us → drop i us ≡ get_or us i 0 ∷ drop (i + 1) us
+uses_from us i lt = rw (add-one i) (drop-cons us i 0 lt)
+
 -- ---- `forget`
 
--- a table with an entry set: what it holds at j
-set_cases : (l : List ℕ) (e x j y : ℕ) → e < length l → (j ≡ e → x ≡ y) → ((j ≡ e → ⊥) → get_or l j 0 ≡ y) → get_or (set l e x) j 0 ≡ y
-set_cases l e x j y lt here there = by_case (ℕ_discrete j e)
-  where
-    by_case : Dec (j ≡ e) → get_or (set l e x) j 0 ≡ y
-    by_case (yes q) = rw q (get_or-set_same l e x 0 lt ∙ here q)
-    by_case (no n) = get_or-set_other l e j x 0 n ∙ there n
+pub forgetting_turn : (us table : List ℕ) (k : ℕ) → k < length us → forgotten (drop (k + 1) us) (set table (number_at us k) 0) ≡ forgotten (drop k us) table
+unfolding forgotten
+forgetting_turn us table k lt = rw (uses_from us k lt)
 
--- the entries of the edges from place `from` up to before i are 0
-pub record Forgetting (wire : List ℕ) (from : ℕ) (places₀ places : List ℕ) (i : ℕ) : Type 0 where
-  pub from_le : from ≤ i
-  pub i_le : i ≤ length wire
-  pub same : length places ≡ length places₀
-  pub zeros : (k : ℕ) → from ≤ k → k < i → get_or places (number_at wire k) 0 ≡ 0
-  pub table : forgotten (drop i wire) places ≡ forgotten (drop from wire) places₀
+-- the uses are those of a slice of the wire, from a place on
+pub forgetting_done : (wire : List ℕ) (from : ℕ) (lent table : List ℕ) (k : ℕ) → length (take (length wire - from) (drop from wire)) ≤ k
+    → forgotten (drop k (take (length wire - from) (drop from wire))) table ≡ forgotten (take (length wire - from) (drop from wire)) lent
+    → table ≡ forgotten (drop from wire) lent
+unfolding forgotten
+forgetting_done wire from lent table k h e =
+    let all = take_all (length wire - from) (drop from wire) (omega (arith, length-drop from wire)) in
+    rw (drop_of_length-le (take (length wire - from) (drop from wire)) h, all) at e
 
--- the uses from place i on, one of them apart
-uses_from : (wire : List ℕ) (i : ℕ) → i < length wire → drop i wire ≡ get_or wire i 0 ∷ drop (i + 1) wire
-uses_from wire i lt = rw (add-one i) (drop-cons wire i 0 lt)
+-- an entry that is 0 stays 0, and that of each use becomes 0
+forgotten_still : (us table : List ℕ) (e : ℕ) → ((k : ℕ) → k < length us → number_at us k < length table) → get_or table e 0 ≡ 0 → get_or (forgotten us table) e 0 ≡ 0
+unfolding forgotten
+forgotten_still [] table e below z = z
+forgotten_still (u ∷ us) table e below z =
+    forgotten_still us (set table (edge_of_use u) 0) e (λ k h. grind (arith, length-set, below (suc k) (omega arith))) (grind (arith, common_steps, z, below 0 (omega arith)))
 
-module _ (wire : List ℕ) (from : ℕ) (places₀ : List ℕ) (edges : (k : ℕ) → k < length wire → number_at wire k < length places₀) where
-  pub forgetting_start : from ≤ length wire → Forgetting wire from places₀ places₀ from
-  forgetting_start h = record { from_le = omega arith; i_le = h; same = refl; zeros = λ k a b. absurd (omega arith); table = refl }
-
-  pub forgetting_turn : (places : List ℕ) (i : ℕ) → Forgetting wire from places₀ places i → i < length wire
-      → Forgetting wire from places₀ (set places (number_at wire i) 0) (i + 1)
-  unfolding forgotten
-  forgetting_turn places i F lt =
-      record {
-        from_le = omega (arith, F.from_le);
-        i_le = omega arith;
-        same = length-set places (number_at wire i) 0 ∙ F.same;
-        zeros = λ k a b.
-            set_cases places (number_at wire i) 0 (number_at wire k) 0 (omega (arith, edges i lt, F.same)) (λ q. refl)
-            (λ n. F.zeros k a (below k b n));
-        table = rw (uses_from wire i lt) at F.table;
-      }
-    where
-      below : (k : ℕ) → k < i + 1 → (number_at wire k ≡ number_at wire i → ⊥) → k < i
-      below k b n = by_case (ℕ_discrete k i)
-        where
-          by_case : Dec (k ≡ i) → k < i
-          by_case (yes q) = absurd (n (ap (number_at wire) q))
-          by_case (no m) = omega (arith, m)
-
-  pub forgetting_done : (places : List ℕ) (i : ℕ) → Forgetting wire from places₀ places i → length wire ≤ i
-      → ((k : ℕ) → from ≤ k → k < length wire → get_or places (number_at wire k) 0 ≡ 0) × (places ≡ forgotten (drop from wire) places₀)
-  unfolding forgotten
-  forgetting_done places i F h = ((λ k a b. F.zeros k a (omega arith)), rw (drop_of_length-le wire h) at F.table)
+forgotten_zero : (us table : List ℕ) (k : ℕ) → ((k : ℕ) → k < length us → number_at us k < length table) → k < length us → get_or (forgotten us table) (number_at us k) 0 ≡ 0
+unfolding forgotten
+forgotten_zero [] table k below lt = absurd (omega arith)
+forgotten_zero (u ∷ us) table zero below lt =
+    forgotten_still us (set table (edge_of_use u) 0) (edge_of_use u) (λ k h. grind (arith, length-set, below (suc k) (omega arith)))
+    (get_or-set_same table (edge_of_use u) 0 0 (below 0 (omega arith)))
+forgotten_zero (u ∷ us) table (suc k) below lt =
+    forgotten_zero us (set table (edge_of_use u) 0) k (λ m h. grind (arith, length-set, below (suc m) (omega arith))) (omega arith)
 
 -- ---- `find_loop`
 
--- what an entry holds for a place of the map: 0, or the place plus 1
-unfoldable pub entry_of : Place → ℕ
-entry_of nowhere = 0
-entry_of (at j) = j + 1
-
 -- the search that is left at place i, one unfolding further
-pub searched_first : (map : ℕ → Place) (i : ℕ) (wire : List ℕ) → i < length wire
+pub searched_first : (map : ℕ → Option ℕ) (i : ℕ) (wire : List ℕ) → i < length wire
     → searched map i (drop i wire) ≡ meet (map (number_at wire i)) i (searched (insert map (number_at wire i) i) (i + 1) (drop (i + 1) wire))
 unfolding searched
-searched_first map i wire lt =
-    rw (uses_from wire i lt)
+searched_first map i wire lt = rw (uses_from wire i lt)
 
-pub searched_none : (map : ℕ → Place) (i : ℕ) (wire : List ℕ) → length wire ≤ i → searched map i (drop i wire) ≡ none
+pub searched_none : (map : ℕ → Option ℕ) (i : ℕ) (wire : List ℕ) → length wire ≤ i → searched map i (drop i wire) ≡ None
 unfolding searched
 searched_none map i wire h = rw (drop_of_length-le wire h)
 
--- `map` is that of the uses passed, and `places` holds it for each edge that the search can meet
-pub record Searching (wire : List ℕ) (from : ℕ) (places₀ places : List ℕ) (i : ℕ) : Type 0 where
-  pub from_le : from ≤ i
-  pub i_le : i ≤ length wire
-  pub same : length places ≡ length places₀
-  pub edges : (k : ℕ) → k < length wire → number_at wire k < length places
-  pub map : ℕ → Place
-  pub holds : (k : ℕ) → from ≤ k → k < length wire → get_or places (number_at wire k) 0 ≡ entry_of (map (number_at wire k))
-  pub is : searched map i (drop i wire) ≡ first_repeat from wire
-  pub table : remembered i (drop i wire) places ≡ remembered from (drop from wire) places₀
-
--- what the search does at place i, by the entry of its edge
-meet_nowhere : (p : Place) (i : ℕ) (later : Repeat) → entry_of p ≡ 0 → meet p i later ≡ later
-unfolding entry_of
-meet_nowhere nowhere i later e = refl
-meet_nowhere (at j) i later e = absurd (omega arith)
-
-meet_at : (p : Place) (i x : ℕ) (later : Repeat) → entry_of p ≡ x → (x ≡ 0 → ⊥) → meet p i later ≡ pair (x - 1) i
-unfolding entry_of
-meet_at nowhere i x later e n = absurd (n (sym e))
-meet_at (at j) i x later e n =
-    let p : j ≡ x - 1 = omega arith in
-    ap (λ (y : ℕ). pair y i) p
-
-pub insert_same : (map : ℕ → Place) (e i other : ℕ) → other ≡ e → insert map e i other ≡ at i
+pub insert_same : (map : ℕ → Option ℕ) (e i other : ℕ) → other ≡ e → insert map e i other ≡ Some i
 unfolding insert
 insert_same map e i other q = rw (eq-eqb other e q)
 
-pub insert_other : (map : ℕ → Place) (e i other : ℕ) → (other ≡ e → ⊥) → insert map e i other ≡ map other
+pub insert_other : (map : ℕ → Option ℕ) (e i other : ℕ) → (other ≡ e → ⊥) → insert map e i other ≡ map other
 unfolding insert
 insert_other map e i other n = rw (ne_eqb other e n)
 
-module _ (wire : List ℕ) (from : ℕ) (places₀ : List ℕ) where
-  pub searching_start : from ≤ length wire → ((k : ℕ) → k < length wire → number_at wire k < length places₀)
-      → ((k : ℕ) → from ≤ k → k < length wire → get_or places₀ (number_at wire k) 0 ≡ 0) → Searching wire from places₀ places₀ from
-  unfolding nothing entry_of first_repeat
-  searching_start h below zeros =
-      record { from_le = omega arith; i_le = h; same = refl; edges = below; map = nothing; holds = zeros; is = refl; table = refl }
+-- `map` is that of the uses passed, and `places` holds it for each edge that the search can meet; `lent` is the table as it was lent
+pub record Searching (wire : List ℕ) (from : ℕ) (lent places : List ℕ) (i : ℕ) : Type 0 where
+  pub from_le : from ≤ i
+  pub edges : (k : ℕ) → k < length wire → number_at wire k < length places
+  pub map : ℕ → Option ℕ
+  pub holds : (k : ℕ) → from ≤ k → k < length wire → place_of (get_or places (number_at wire k) 0) ≡ map (number_at wire k)
+  pub is : searched map i (drop i wire) ≡ first_repeat from wire
+  pub table : remembered i (drop i wire) places ≡ table_after from wire lent
 
-  -- place i is met, and the entry of its edge is x
-  module _ (places : List ℕ) (i : ℕ) (S : Searching wire from places₀ places i) (lt : i < length wire) (x : ℕ) (q : x ≡ get_or places (number_at wire i) 0) where
-    met : meet (S.map (number_at wire i)) i (searched (insert S.map (number_at wire i) i) (i + 1) (drop (i + 1) wire)) ≡ first_repeat from wire
-    met = sym (searched_first S.map i wire lt) ∙ S.is
+-- an entry of no place is 0, and one of a place is not
+empty : (x : ℕ) → None ≡ place_of x → x ≡ 0
+empty zero e = refl
+empty (suc x) e = cc
 
-    entry : entry_of (S.map (number_at wire i)) ≡ x
-    entry = sym (q ∙ S.holds i S.from_le lt)
+held : (x j : ℕ) → Some j ≡ place_of x → x ≡ 0 → ⊥
+held zero j e = cc
+held (suc x) j e = omega arith
 
-    -- its edge stood before
-    pub searching_found : (x ≡ 0 → ⊥) → pair (x - 1) i ≡ first_repeat from wire
-    searching_found n = sym (meet_at (S.map (number_at wire i)) i x _ entry n) ∙ met
+module _ (wire : List ℕ) (from : ℕ) (lent : List ℕ) where
+  pub searching_start : (places : List ℕ) → places ≡ forgotten (drop from wire) lent → length places ≡ length lent
+      → ((k : ℕ) → k < length wire → number_at wire k < length lent) → Searching wire from lent places from
+  unfolding nothing first_repeat table_after
+  searching_start places e l below =
+      record {
+        from_le = omega arith;
+        edges = λ k h. omega (arith, below k h);
+        map = nothing;
+        holds = λ k a b. ap place_of {y = 0} (rw e (zeros k a b));
+        is = refl;
+        table = rw e;
+      }
+    where
+      number_of : (k : ℕ) → number_at (drop from wire) k ≡ number_at wire (from + k)
+      number_of k = ap edge_of_use (get_or-drop from wire k 0)
 
-    pub table_found : (places' : List ℕ) → places' ≡ set places (number_at wire i) (i + 1) → (x ≡ 0 → ⊥) → places' ≡ remembered from (drop from wire) places₀
+      zeros : (k : ℕ) → from ≤ k → k < length wire → get_or (forgotten (drop from wire) lent) (number_at wire k) 0 ≡ 0
+      zeros k a b =
+          let n : from + (k - from) ≡ k = omega arith in
+          let below' : (m : ℕ) → m < length (drop from wire) → number_at (drop from wire) m < length lent
+          = λ m g. rw (number_of m) (omega (arith, below (from + m) (omega (arith, length-drop from wire)))) in
+          let z = forgotten_zero (drop from wire) lent (k - from) below' (omega (arith, length-drop from wire)) in
+          rw (number_of (k - from), n) at z
+
+  -- place i is met
+  module _ (places : List ℕ) (i : ℕ) (S : Searching wire from lent places i) (lt : i < length wire) where
+    met : (x : Option ℕ) → x ≡ place_of (get_or places (number_at wire i) 0)
+        → meet x i (searched (insert S.map (number_at wire i) i) (i + 1) (drop (i + 1) wire)) ≡ first_repeat from wire
+    met x q = rw (q, S.holds i S.from_le lt) (sym (searched_first S.map i wire lt) ∙ S.is)
+
+    -- its edge stood before, at place j
+    pub searching_found : (j : ℕ) → Some j ≡ place_of (get_or places (number_at wire i) 0) → pair j i ≡ first_repeat from wire
+    searching_found j q = met (Some j) q
+
+    pub table_found : (j : ℕ) (places' : List ℕ) → places' ≡ set places (number_at wire i) (i + 1) → Some j ≡ place_of (get_or places (number_at wire i) 0)
+        → places' ≡ table_after from wire lent
     unfolding remembered
-    table_found places' e n = e ∙ rw (uses_from wire i lt, ← q, ne_eqb x 0 n) at S.table
+    table_found j places' e q =
+        let x = get_or places (number_at wire i) 0 in
+        e ∙ rw (uses_from wire i lt, ne_eqb x 0 (held x j q)) at S.table
 
     -- it did not
-    pub searching_turn : (places' : List ℕ) → places' ≡ set places (number_at wire i) (i + 1) → x ≡ 0 → Searching wire from places₀ places' (i + 1)
-    unfolding entry_of remembered
-    searching_turn places' e z =
-        let l : length places' ≡ length places = rw e (length-set places (number_at wire i) (i + 1)) in
+    pub searching_turn : (places' : List ℕ) → places' ≡ set places (number_at wire i) (i + 1) → None ≡ place_of (get_or places (number_at wire i) 0)
+        → Searching wire from lent places' (i + 1)
+    unfolding remembered
+    searching_turn places' e q =
+        let x = get_or places (number_at wire i) 0 in
         record {
           from_le = omega (arith, S.from_le);
-          i_le = omega arith;
-          same = l ∙ S.same;
-          edges = λ k h. rw l (S.edges k h);
+          edges = λ k h. rw (e, length-set places (number_at wire i) (i + 1)) (S.edges k h);
           map = insert S.map (number_at wire i) i;
-          holds = λ k a b.
-              rw e
-              (set_cases places (number_at wire i) (i + 1) (number_at wire k) _ (S.edges i lt)
-              (λ here. sym (ap entry_of (insert_same S.map (number_at wire i) i (number_at wire k) here)))
-              (λ n. S.holds k a b ∙ sym (ap entry_of (insert_other S.map (number_at wire i) i (number_at wire k) n))));
-          is = sym (meet_nowhere (S.map (number_at wire i)) i _ (entry ∙ z)) ∙ met;
-          table = rw e (rw (uses_from wire i lt, ← q, eq-eqb x 0 z) at S.table);
+          holds = λ k a b. rw e (holds' k a b (ℕ_discrete (number_at wire k) (number_at wire i)));
+          is = met None q;
+          table = rw e (rw (uses_from wire i lt, eq-eqb x 0 (empty x q)) at S.table);
         }
+      where
+        holds' : (k : ℕ) → from ≤ k → k < length wire → Dec (number_at wire k ≡ number_at wire i)
+            → place_of (get_or (set places (number_at wire i) (i + 1)) (number_at wire k) 0) ≡ insert S.map (number_at wire i) i (number_at wire k)
+        holds' k a b (yes s) =
+            rw (s, get_or-set_same places (number_at wire i) (i + 1) 0 (S.edges i lt), add-one i) (sym (insert_same S.map (number_at wire i) i (number_at wire i) refl))
+        holds' k a b (no d) =
+            rw (get_or-set_other places (number_at wire i) (number_at wire k) (i + 1) 0 d) (S.holds k a b ∙ sym (insert_other S.map (number_at wire i) i (number_at wire k) d))
 
-  pub searching_done : (places : List ℕ) (i : ℕ) → Searching wire from places₀ places i → length wire ≤ i → none ≡ first_repeat from wire
+  -- no place is left
+  pub searching_done : (places : List ℕ) (i : ℕ) → Searching wire from lent places i → length wire ≤ i → None ≡ first_repeat from wire
   searching_done places i S h = sym (searched_none S.map i wire h) ∙ S.is
 
-  pub table_done : (places : List ℕ) (i : ℕ) → Searching wire from places₀ places i → length wire ≤ i → places ≡ remembered from (drop from wire) places₀
+  pub table_done : (places : List ℕ) (i : ℕ) → Searching wire from lent places i → length wire ≤ i → places ≡ table_after from wire lent
   unfolding remembered
   table_done places i S h = rw (drop_of_length-le wire h) at S.table
 
--- the table as it was lent, to that which the search leaves
-pub table_after_is : (wire : List ℕ) (from : ℕ) (lent start places : List ℕ) → start ≡ forgotten (drop from wire) lent → places ≡ remembered from (drop from wire) start
-    → places ≡ table_after from wire lent
-unfolding table_after
-table_after_is wire from lent start places f r = rw (← f) r
+-- ---- the lemmas by which the invariants of the two loops are kept
+pub ruleset forgetting = (forgetting_turn, forgetting_done)
+
+pub ruleset searching = (searching_start, searching_turn)

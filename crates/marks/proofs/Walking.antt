@@ -9,7 +9,7 @@ use native.Mathlib.Decide.{dec_lt}
 use borrow.Author.Tests.{ltb-true, ltb-false, leb-true, leb-false, ne_eqb, lt-ltb, le-ltb}
 use lib.Dec.{eqb, leb, ltb}
 use lib.ListN.{length, get_or, take, drop, replicate, length-append, length-drop, length-replicate, get_or-append, get_or-eq_default}
-use lib.Seq.{sets, length-take-le, take_all, take_at, get_or-append-add}
+use lib.Seq.{sets, take_all, take_at, get_or-append-add}
 use Rattle.compress.specs.Records.{pick}
 use Rattle.compress.proofs.Cells.{take_sets}
 use Rattle.lists.specs.Ends.{end_in, end_of, front_of, back_of, marked_of, Sound}
@@ -113,10 +113,6 @@ module _ (en : List ℕ) (edges : ℕ) (face rebuilt ds : List ℕ) (pairs : ℕ
       → o ≡ walk_outcome (walk (front_of en ds edges) (back_of en ds edges) (marked_of ms) us) os ls → o ≡ walk_outcome (lent_walk en edges face rebuilt ds pairs) os ls
   unfolding lent_walk
   walked ms us os ls o q m T = rw (q, m) at T
-
--- a first part of a table of 1024 is as long as asked
-pub prefix_length : {m : ℕ} (l : List ℕ) → m ≤ 1024 → length l ≡ 1024 → m ≡ length (take m l)
-prefix_length {m} l le e = sym (length-take-le m l (omega arith))
 
 -- The same as the code has it: the uses are laid in a table of 1024 zeros.
 module _ {en face rebuilt ds : List ℕ} {edges pairs : ℕ} (W : Walkable en edges face rebuilt ds pairs) {us₁ us₂ : List ℕ}

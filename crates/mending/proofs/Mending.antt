@@ -8,6 +8,7 @@ use native.Mathlib.Omega.{arith}
 use native.Mathlib.Decide.{dec_le}
 use lib.ListN.{length, get_or, take, drop}
 use lib.Seq.{length-take-le, take_all}
+use Rattle.std.specs.Prelude.{Ok, Err}
 use Rattle.compress.specs.Shell.{uses_fit}
 use Rattle.compress.specs.Wires.{total, wires_of, uses_of, lengths_of}
 use Rattle.compress.proofs.Room.{both, uses_room}
@@ -55,7 +56,7 @@ module _ (us ls : List ℕ) (wires : ℕ) (added : List ℕ) (le : wires ≤ len
 
     -- room: the mended wires, copied over the fronts of both slices
     pub in_place : (us' ls' : List ℕ) → (room && fit) ≡ true → us' ≡ take n out ++ drop n us → ls' ≡ take wires ol ++ drop wires ls
-        → InPlace ws room us ls us' ls' (record { fits = true; uses = n })
+        → InPlace ws room us ls us' ls' (Ok n)
     in_place us' ls' t eu el =
         let lw : length ws ≡ wires = length_replaced added us (take wires ls) ∙ length-take-le wires ls le in
         let ll : length (lengths_of ws) ≡ wires = length_lengths ws ∙ lw in
@@ -68,7 +69,7 @@ module _ (us ls : List ℕ) (wires : ℕ) (added : List ℕ) (le : wires ≤ len
         }
 
     -- no room: nothing is written
-    pub left : (room && fit) ≡ false → InPlace ws room us ls us ls (record { fits = false; uses = n })
+    pub left : (room && fit) ≡ false → InPlace ws room us ls us ls (Err (record { uses = n }))
     left t = record { count = M.count; fits = rw (← count_is) (sym t); uses = refl; lengths = refl }
 
     pub fits_in : (room && fit) ≡ true → n ≤ length us

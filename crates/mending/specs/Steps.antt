@@ -1,9 +1,9 @@
 -- What the mending of wires asks and leaves. Definitions only.
-use Rattle.std.specs.Prelude.{◌≡◌, Bool, ◌&&◌, List, ℕ, ◌*◌, ◌/◌, ◌≤◌, ◌<◌, length, get_or, take}
+use Rattle.std.specs.Prelude.{◌≡◌, Bool, ◌&&◌, Result, Ok, Err, is_ok, List, ℕ, ◌*◌, ◌/◌, ◌≤◌, ◌<◌, length, get_or, take}
 use Rattle.compress.specs.Records.{pick}
 use Rattle.compress.specs.Shell.{uses_fit}
 use Rattle.compress.specs.Wires.{total, uses_of, lengths_of, over}
-use Rattle.mending.specs.declared.Mend.{Mend}
+use Rattle.mending.specs.declared.NoRoom.{NoRoom}
 
 -- the wires lie in their slices, each use is of an edge that `added` has, and there are two places for each use and one for each length
 pub record Replaceable (us ls : List ℕ) (wires : ℕ) (added out out_lengths : List ℕ) : Type 0 where
@@ -21,9 +21,14 @@ pub record Mended (ws : List (List ℕ)) (us ls : List ℕ) (r : ℕ) : Type 0 w
   pub count : r ≡ length (uses_of ws)
   pub lengths : take (length ws) ls ≡ lengths_of ws
 
+-- how many uses the mended wires have, whether there was room for them or not
+abbrev pub count_told : Result ℕ NoRoom → ℕ
+count_told (Ok n) = n
+count_told (Err e) = e.uses
+
 -- the wires ws written over the fronts of both slices, where the tables have room and there is room for their uses; else nothing is written
-pub record InPlace (ws : List (List ℕ)) (room : Bool) (us ls us' ls' : List ℕ) (r : Mend) : Type 0 where
-  pub count : r.uses ≡ length (uses_of ws)
-  pub fits : r.fits ≡ (room && uses_fit us (length (uses_of ws)))
-  pub uses : us' ≡ pick r.fits (over (uses_of ws) us) us
-  pub lengths : ls' ≡ pick r.fits (over (lengths_of ws) ls) ls
+pub record InPlace (ws : List (List ℕ)) (room : Bool) (us ls us' ls' : List ℕ) (r : Result ℕ NoRoom) : Type 0 where
+  pub count : count_told r ≡ length (uses_of ws)
+  pub fits : is_ok r ≡ (room && uses_fit us (length (uses_of ws)))
+  pub uses : us' ≡ pick (is_ok r) (over (uses_of ws) us) us
+  pub lengths : ls' ≡ pick (is_ok r) (over (lengths_of ws) ls) ls

@@ -3,11 +3,14 @@
 
 ghost use Rattle.std.specs.Prelude.{◌≡◌, ℕ, ◌+◌, ◌*◌, ◌/◌, ◌≤◌, ◌<◌, length, get_or, take};
 ghost use Rattle.std.proofs.lemmas.List.Edits.{sets};
+ghost use Rattle.compress.specs.declared.Refusal.TheVariants.{NoRoom};
 ghost use Rattle.compress.specs.Wires.{wires_of};
 ghost use Rattle.checks.specs.Causes.{wires_cause};
 ghost use Rattle.mending.specs.Parts.{uses_of_parts};
 ghost use Rattle.mending.specs.Replace.{replace_use, replace_edges, replace_wires};
 ghost use Rattle.mending.specs.Steps.{Replaceable, Mended, InPlace};
+
+use compress::Refusal;
 
 // What stands in a wire for one use: the use, or it and that of the edge cut off, in their order.
 #[derive(Clone, Copy)]
@@ -56,13 +59,10 @@ fn replace_edges(wire: &[u32], added: &[u32], out: &mut [u32]) -> usize
     ensures value { result ≡ length (replace_edges added.now wire.now) }
     ensures out_after { take result out.new ≡ replace_edges added.now wire.now }
 {
-    let mut i: usize = 0;
     let mut k: usize = 0;
-    while i < wire.len() {
-        let u = wire[i];
+    for &u in wire {
         let e = (u / 2) as usize;
         k = push(out, k, replace_use(u, added[e]));
-        i += 1;
     }
     k
 }
@@ -79,30 +79,35 @@ fn replace_wires(
     requires { Replaceable uses.now lengths.now wires added.now out.old out_lengths.old }
     ensures { Mended (replace_wires added.now (wires_of uses.now (take wires lengths.now))) out.new out_lengths.new result }
 {
-    let mut w: usize = 0;
     let mut from: usize = 0;
     let mut at: usize = 0;
-    while w < wires {
+    for w in 0..wires {
         let to = from + lengths[w] as usize;
         let n = replace_edges(&uses[from..to], added, &mut out[at..]);
         out_lengths[w] = n as u32;
         from = to;
         at += n;
-        w += 1;
     }
     at
 }
 
 // ---- in place
 
-// What the mending of a call's wires comes to: how many uses they have, and whether there was room, so that they were written.
+// There is no room for the uses of the mended wires, so many of them.
 #[derive(Clone, Copy)]
-pub struct Mend {
-    pub fits: bool,
+pub struct NoRoom {
     pub uses: usize,
 }
 
-// The wires are mended in place by way of two buffers, and not at all where there is no room.
+impl From<NoRoom> for Refusal {
+    ghost from_gives = { λ _ r. r ≡ NoRoom };
+
+    fn from(_: NoRoom) -> Refusal {
+        Refusal::NoRoom
+    }
+}
+
+// The wires are mended in place by way of two buffers, and not at all where there is no room: how many uses they have.
 fn mend_through(
     uses: &mut [u32],
     lengths: &mut [u32],
@@ -111,24 +116,18 @@ fn mend_through(
     room: bool,
     out: &mut [u32],
     out_lengths: &mut [u32],
-) -> Mend
+) -> Result<usize, NoRoom>
     requires { Replaceable uses.old lengths.old wires added.now out.old out_lengths.old }
     ensures { InPlace (replace_wires added.now (wires_of uses.old (take wires lengths.old))) room uses.old lengths.old uses.new lengths.new result }
 {
     let n = replace_wires(uses, lengths, wires, added, out, out_lengths);
     let fits = room & rows::uses_fit(uses, n);
-    if fits {
-        rows::copy(out, n, uses);
-        rows::copy(out_lengths, wires, lengths);
-        return Mend {
-            fits: true,
-            uses: n,
-        };
+    if !fits {
+        return Err(NoRoom { uses: n });
     }
-    Mend {
-        fits: false,
-        uses: n,
-    }
+    rows::copy(out, n, uses);
+    rows::copy(out_lengths, wires, lengths);
+    Ok(n)
 }
 
 // Every wire is mended in place, where there is room for all of them: `room` tells it of the tables, and the uses are judged here.
@@ -139,7 +138,7 @@ pub fn mend_wires(
     wires: usize,
     added: &[u32],
     room: bool,
-) -> Mend
+) -> Result<usize, NoRoom>
     requires { (wires_cause (length added.now) uses.old lengths.old wires ≡ 0) × ((k : ℕ) → get_or added.now k 0 < 2147483648) }
     ensures { InPlace (replace_wires added.now (wires_of uses.old (take wires lengths.old))) room uses.old lengths.old uses.new lengths.new result }
 {

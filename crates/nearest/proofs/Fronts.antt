@@ -1,13 +1,13 @@
 -- The front of a stretch that is nearest to a vertex: the best so far, with the fronts that are left, is the best of all.
 -- Assumes nothing.
-use mathlib.Core.Path.{◌≡◌, refl, ap, sym, ◌∙◌}
+use mathlib.Core.Path.{◌≡◌, refl, ap, ◌∙◌}
 use mathlib.Core.Bool.{Bool, true, false}
-use mathlib.Core.List.{List, [], ◌∷◌, foldl}
-use Prim.Native.Nat.{ℕ, ◌+◌, ◌*◌, ◌/◌, ◌≤◌, ◌<◌}
+use mathlib.Core.List.{List, ◌∷◌, foldl}
+use Prim.Native.Nat.{ℕ, suc, ◌+◌, ◌*◌, ◌/◌, ◌≤◌, ◌<◌}
 use native.Mathlib.Numerals.{add-one}
 use native.Mathlib.Omega.{arith}
-use lib.ListN.{length, get_or, drop}
-use lib.Seq.{drop-cons, drop-length}
+use lib.ListN.{length, get_or, drop, drop_of_length-le}
+use lib.Seq.{drop-cons}
 use lib.Ieee.{Float, lt}
 use Rattle.compress.specs.declared.Edge.{Edge}
 use Rattle.compress.specs.declared.Vertex.{Vertex}
@@ -17,19 +17,18 @@ use Rattle.checks.specs.Causes.{vertices_cause, edges_cause}
 use Rattle.checks.proofs.Accepted.{edges_accepted, edge_ends, vertices_accepted}
 use Rattle.compress.specs.Choice.{smaller}
 use Rattle.nearest.specs.declared.Away.{Away}
-use Rattle.compress.specs.Said.{result, none}
-use Rattle.nearest.specs.Ends.{point_of, away_at, gap_of, gap_from, fronts_of, nearest_front, nearest_ends, ends_from}
+use Rattle.nearest.specs.Ends.{point_of, away_at, gap_of, gap_from, fronts_of, nearest_front}
 
 pick_below : (b : Bool) (x y v : ℕ) → x < v → y < v → pick b x y < v
 pick_below true x y v h k = h
 pick_below false x y v h k = k
 
 -- the front of a use of an accepted table is one of its vertices
-pub front_below : (v : ℕ) (en : List ℕ) (ef : List Float) (e u : ℕ) → edges_cause v en ef e ≡ 0 → u / 2 < e → front_at (edge_at en ef) u < v
+pub front_below : (v : ℕ) (en : List ℕ) (ef : List Float) (e u f : ℕ) → edges_cause v en ef e ≡ 0 → u / 2 < e → f ≡ front_at (edge_at en ef) u → f < v
 unfolding front_at front_of
-front_below v en ef e u q h =
+front_below v en ef e u f q h r =
     let a = edge_ends v (edge_at en ef (u / 2)) ((edges_accepted v en ef e q).rows (u / 2) h) in
-    pick_below (forward u) (edge_at en ef (u / 2)).front (edge_at en ef (u / 2)).back v a.0 a.1
+    rw r (pick_below (forward u) (edge_at en ef (u / 2)).front (edge_at en ef (u / 2)).back v a.0 a.1)
 
 -- the row of a use's edge, and of a vertex, lies in its slices
 pub edge_row : (v : ℕ) (en : List ℕ) (ef : List Float) (e i : ℕ) → edges_cause v en ef e ≡ 0 → i < e → (i * 4 + 4 ≤ length en) × (i * 6 + 6 ≤ length ef)
@@ -55,20 +54,19 @@ less_away vs p a b = by (lt (gap_from vs p b) (gap_from vs p a))
     by true = refl
     by false = refl
 
-pub record Seeking (es : ℕ → Edge) (vs : ℕ → Vertex) (p v : ℕ) (us : List ℕ) (i : ℕ) (best : Away) : Type 0 where
-  pub i_ge : 1 ≤ i
-  pub i_le : i ≤ length us
+-- the best of the fronts so far, with those of the uses us from place i on that are left
+pub record Seeking (es : ℕ → Edge) (vs : ℕ → Vertex) (p v u : ℕ) (us : List ℕ) (i : ℕ) (best : Away) : Type 0 where
   pub below : best.vertex < v
   pub away : best ≡ away_at vs (point_of (vs p)) best.vertex
-  pub is : foldl (smaller (gap_from vs p)) best.vertex (fronts_of es (drop i us)) ≡ nearest_front es vs p (get_or us 0 0) (drop 1 us)
+  pub is : foldl (smaller (gap_from vs p)) best.vertex (fronts_of es (drop i us)) ≡ nearest_front es vs p u us
 
-module _ (es : ℕ → Edge) (vs : ℕ → Vertex) (p v : ℕ) (us : List ℕ) where
-  pub seeking_start : (f : ℕ) (best : Away) → 0 < length us → f ≡ front_at es (get_or us 0 0) → f < v → best ≡ away_at vs (point_of (vs p)) f → Seeking es vs p v us 1 best
+module _ (es : ℕ → Edge) (vs : ℕ → Vertex) (p v u : ℕ) (us : List ℕ) where
+  pub seeking_start : (f : ℕ) (best : Away) → f ≡ front_at es u → f < v → best ≡ away_at vs (point_of (vs p)) f → Seeking es vs p v u us 0 best
   unfolding nearest_front
-  seeking_start f best h q b e = rw e (record { i_ge = omega arith; i_le = omega arith; below = b; away = refl; is = rw q })
+  seeking_start f best q b e = rw e (record { below = b; away = refl; is = rw q })
 
-  pub seeking_turn : (i f : ℕ) (best next : Away) → Seeking es vs p v us i best → i < length us → f ≡ front_at es (get_or us i 0) → f < v
-      → next ≡ smaller gap_of best (away_at vs (point_of (vs p)) f) → Seeking es vs p v us (i + 1) next
+  pub seeking_turn : (i f : ℕ) (best next : Away) → Seeking es vs p v u us i best → i < length us → f ≡ front_at es (get_or us i 0) → f < v
+      → next ≡ smaller gap_of best (away_at vs (point_of (vs p)) f) → Seeking es vs p v u us (i + 1) next
   unfolding fronts_of
   seeking_turn i f best next S lt q b e =
       let d : drop i us ≡ get_or us i 0 ∷ drop (i + 1) us = rw (add-one i) (drop-cons us i 0 lt) in
@@ -76,53 +74,19 @@ module _ (es : ℕ → Edge) (vs : ℕ → Vertex) (p v : ℕ) (us : List ℕ) w
       = e ∙ ap (λ (a : Away). smaller gap_of a (away_at vs (point_of (vs p)) f)) S.away ∙ less_away vs p best.vertex f in
       rw n
       (record {
-        i_ge = omega arith;
-        i_le = omega arith;
         below = smaller_below (gap_from vs p) best.vertex f v S.below b;
         away = refl;
         is = rw q (rw d at S.is);
       })
 
-  pub seeking_done : (i : ℕ) (best : Away) → Seeking es vs p v us i best → length us ≤ i
-      → (best.vertex ≡ nearest_front es vs p (get_or us 0 0) (drop 1 us)) × (best.vertex < v)
+  pub seeking_done : (i : ℕ) (best : Away) → Seeking es vs p v u us i best → length us ≤ i → best.vertex ≡ nearest_front es vs p u us
   unfolding fronts_of
-  seeking_done i best S h =
-      let q : i ≡ length us = omega (arith, S.i_le) in
-      (rw (q, drop-length) at S.is, S.below)
+  seeking_done i best S h = rw (drop_of_length-le us h) at S.is
 
--- ---- the ways out of nearest ends, by the lengths of the stretches
-split_first : (us : List ℕ) → 0 < length us → us ≡ get_or us 0 0 ∷ drop 1 us
-split_first [] h = absurd (none h)
-  where
-    none : 0 < 0 → ⊥
-    none g = omega arith
-split_first (u ∷ us) h = refl
+-- ---- nearest ends
+-- the uses after the first of a stretch are uses of it
+pub uses_after : (m : ℕ) (w us : List ℕ) (u : ℕ) → w ≡ u ∷ us → ((k : ℕ) → k < length w → get_or w k 0 / 2 < m) → (k : ℕ) → k < length us → get_or us k 0 / 2 < m
+uses_after m w us u e h k lt = let g = rw e at h in g (suc k) (omega arith)
 
-pub no_uses : (us : List ℕ) → length us ≡ 0 → us ≡ []
-no_uses [] h = refl
-no_uses (u ∷ us) h = absurd (none h)
-  where
-    none : length (u ∷ us) ≡ 0 → ⊥
-    none g = omega arith
-
-module _ (es : ℕ → Edge) (vs : ℕ → Vertex) (v0 : ℕ) (first second : List ℕ) where
-  pub ends_none_second : length second ≡ 0 → none ≡ nearest_ends es vs v0 first second
-  unfolding nearest_ends
-  ends_none_second h = rw (no_uses second h)
-
-  pub ends_none_first : (length second ≡ 0 → ⊥) → length first ≡ 0 → none ≡ nearest_ends es vs v0 first second
-  unfolding nearest_ends
-  ends_none_first ne h = rw (split_first second (omega (arith, ne)), no_uses first h)
-
-  pub ends_found : (v1 w0 : ℕ) → (length second ≡ 0 → ⊥) → (length first ≡ 0 → ⊥) → v1 ≡ nearest_front es vs v0 (get_or second 0 0) (drop 1 second)
-      → w0 ≡ nearest_front es vs v1 (get_or first 0 0) (drop 1 first)
-      → result (record { v0 = w0; v1 = v1 }) ≡ nearest_ends es vs v0 first second
-  unfolding nearest_ends
-  ends_found v1 w0 ns nf p q =
-      let a : second ≡ get_or second 0 0 ∷ drop 1 second = split_first second (omega (arith, ns)) in
-      let b : first ≡ get_or first 0 0 ∷ drop 1 first = split_first first (omega (arith, nf)) in
-      let e : nearest_ends es vs v0 first second ≡ ends_from es vs (nearest_front es vs v0 (get_or second 0 0) (drop 1 second)) first
-      = ap (nearest_ends es vs v0 first) a in
-      let g : ends_from es vs v1 first ≡ result (record { v0 = nearest_front es vs v1 (get_or first 0 0) (drop 1 first); v1 = v1 })
-      = ap (ends_from es vs v1) b in
-      rw q (sym (e ∙ rw (← p) g))
+-- the lemmas that place rows and fronts in accepted tables
+pub ruleset in_tables = (edge_row, vertex_row, front_below)

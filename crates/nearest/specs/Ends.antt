@@ -5,12 +5,10 @@ use Rattle.compress.specs.declared.Edge.{Edge}
 use Rattle.compress.specs.declared.Vertex.{Vertex}
 use Rattle.compress.specs.declared.Vertex.TheVariants.{Given, Pending}
 use Rattle.compress.specs.Records.{front_at}
-use Rattle.compress.specs.Refusals.{refusal_number}
-use Rattle.compress.specs.Said.{Said, result, none, refused}
+use Rattle.compress.specs.Said.{Said, result, none}
 use Rattle.nearest.specs.declared.Xyz.{Xyz}
 use Rattle.nearest.specs.declared.Away.{Away}
 use Rattle.nearest.specs.declared.Ends.{Ends}
-use Rattle.nearest.specs.declared.Ends.TheVariants.{Between, NoEnds, EndsRefused}
 use Rattle.compress.specs.Choice.{zero64, smallest}
 
 -- the point of a given vertex; a pending one has none, and is refused (7) before it is read
@@ -41,22 +39,11 @@ fronts_of es (u ∷ us) = front_at es u ∷ fronts_of es us
 unfoldable pub nearest_front : (ℕ → Edge) → (ℕ → Vertex) → ℕ → ℕ → List ℕ → ℕ
 nearest_front es vs p u us = smallest (gap_from vs p) (front_at es u) (fronts_of es us)
 
--- two vertices: one in the first stretch, one in the second
-pub record Divisor : Type 0 where
-  pub v0 : ℕ
-  pub v1 : ℕ
-
 -- "From v0, the nearest front of the second stretch; from there, the nearest front of the first. .. An empty stretch gives "none"."
-abbrev pub ends_from : (ℕ → Edge) → (ℕ → Vertex) → ℕ → List ℕ → Said Divisor
+abbrev pub ends_from : (ℕ → Edge) → (ℕ → Vertex) → ℕ → List ℕ → Said Ends
 ends_from es vs v1 [] = none
 ends_from es vs v1 (u ∷ us) = result (record { v0 = nearest_front es vs v1 u us; v1 = v1 })
 
-unfoldable pub nearest_ends : (ℕ → Edge) → (ℕ → Vertex) → ℕ → List ℕ → List ℕ → Said Divisor
+unfoldable pub nearest_ends : (ℕ → Edge) → (ℕ → Vertex) → ℕ → List ℕ → List ℕ → Said Ends
 nearest_ends es vs v0 first [] = none
 nearest_ends es vs v0 first (u ∷ us) = ends_from es vs (nearest_front es vs v0 u us) first
-
--- what the code answers
-abbrev pub said_ends : Ends → Said Divisor
-said_ends (Between v0 v1) = result (record { v0 = v0; v1 = v1 })
-said_ends NoEnds = none
-said_ends (EndsRefused r) = refused (refusal_number r)

@@ -15,12 +15,14 @@ use Rattle.compress.specs.Rows.{edge_at, vertex_at}
 use Rattle.compress.specs.Said.{Said, result, none, refused, refused_or}
 use Rattle.compress.specs.Wires.{wires_of}
 use Rattle.wires.specs.Turn.{turned}
-use Rattle.nearest.specs.Ends.{Divisor, fronts_of, nearest_front, nearest_ends, ends_from}
+use Rattle.nearest.specs.declared.Ends.{Ends}
+use Rattle.nearest.specs.Ends.{fronts_of, nearest_front, nearest_ends, ends_from}
 use Rattle.nearest.proofs.Laws.{front_member}
-use Rattle.loops.specs.Loop.{Repeat, pair, first_repeat}
+use Rattle.std.specs.Prelude.{Option, Some, None}
+use Rattle.loops.specs.declared.Pair.{Pair}
+use Rattle.loops.specs.Loop.{first_repeat}
 use Rattle.divisor.specs.Divided.{half_up, second_pair, stretch, divided_by, turned_divisor}
 use Rattle.non_simple.specs.Divisor.{divisor_from, wire_divisor, or_next, find_divisor, search_cause, find_non_simple}
-use Rattle.loops.specs.Loop as loop
 
 module _ (es : ℕ → Edge) (vs : ℕ → Vertex) where
   -- vertex v is the front of a use of the wire
@@ -67,12 +69,12 @@ module _ (es : ℕ → Edge) (vs : ℕ → Vertex) where
   front_of_stretch w a b v m = front_of_drop a w v (front_of_take (b - a) (drop a w) v m)
 
   -- both vertices of an answer are fronts, of wires a and b; "none" and a refusal name no vertex
-  abbrev pub Names : List ℕ → List ℕ → Said Divisor → Type 0
+  abbrev pub Names : List ℕ → List ℕ → Said Ends → Type 0
   Names a b (result d) = IsFront d.v0 a × IsFront d.v1 b
   Names a b none = Unit
   Names a b (refused n) = Unit
 
-  widen : (a b c d : List ℕ) (s : Said Divisor) → ((v : ℕ) → IsFront v a → IsFront v c) → ((v : ℕ) → IsFront v b → IsFront v d) → Names a b s → Names c d s
+  widen : (a b c d : List ℕ) (s : Said Ends) → ((v : ℕ) → IsFront v a → IsFront v c) → ((v : ℕ) → IsFront v b → IsFront v d) → Names a b s → Names c d s
   widen a b c d (result r) f g m = (f r.v0 m.0, g r.v1 m.1)
   widen a b c d none f g m = tt
   widen a b c d (refused n) f g m = tt
@@ -87,7 +89,7 @@ module _ (es : ℕ → Edge) (vs : ℕ → Vertex) where
   ends_named v0 a [] = tt
   ends_named v0 a (u ∷ us) = ends_from_named (nearest_front es vs v0 u us) a (u ∷ us) (front_member es vs v0 u us)
 
-  pick_named : (b : Bool) (a c : List ℕ) (s : Said Divisor) → Names a c s → Names a c (pick b s (refused 8))
+  pick_named : (b : Bool) (a c : List ℕ) (s : Said Ends) → Names a c s → Names a c (pick b s (refused 8))
   pick_named true a c s m = m
   pick_named false a c s m = tt
 
@@ -97,15 +99,17 @@ module _ (es : ℕ → Edge) (vs : ℕ → Vertex) where
       let s = second_pair (first_repeat (j0 + 1) w) j0 (length w) in
       let v0 = front_at es (get_or w (half_up j0) 0) in
       let a = stretch w 1 j0 in
-      let b = stretch w (s.i + 1) s.j in
+      let b = stretch w (s.earlier + 1) s.later in
       let said = nearest_ends es vs v0 a b in
-      pick_named (ltb (half_up (s.i + s.j)) (length w)) w w said
-      (widen a b w w said (front_of_stretch w 1 j0) (front_of_stretch w (s.i + 1) s.j) (ends_named v0 a b))
+      pick_named (ltb (half_up (s.earlier + s.later)) (length w)) w w said
+      (widen a b w w said (front_of_stretch w 1 j0) (front_of_stretch w (s.earlier + 1) s.later) (ends_named v0 a b))
 
-  repeat_named : (w : List ℕ) (r : Repeat) → Names w w (divisor_from es vs w r)
-  repeat_named w loop.none = tt
-  repeat_named w (pair i j) =
-      widen (turned i w) (turned i w) w w (turned_divisor es vs (turned i w) (j - i)) (front_of_turned i w) (front_of_turned i w) (turned_named (turned i w) (j - i))
+  repeat_named : (w : List ℕ) (r : Option Pair) → Names w w (divisor_from es vs w r)
+  repeat_named w None = tt
+  repeat_named w (Some p) =
+      let i = p.earlier in
+      let j0 = p.later - i in
+      widen (turned i w) (turned i w) w w (turned_divisor es vs (turned i w) j0) (front_of_turned i w) (front_of_turned i w) (turned_named (turned i w) j0)
 
   -- one wire: both vertices are fronts of its uses
   pub wire_named : (w : List ℕ) → Names w w (wire_divisor es vs w)
@@ -113,23 +117,23 @@ module _ (es : ℕ → Edge) (vs : ℕ → Vertex) where
   wire_named w = repeat_named w (first_repeat 0 w)
 
   -- one of the wires has both
-  pub record Named (d : Divisor) (ws : List (List ℕ)) : Type 0 where
+  pub record Named (d : Ends) (ws : List (List ℕ)) : Type 0 where
     pub wire : List ℕ
     pub stands : Memᴰ wire ws
     pub first : IsFront d.v0 wire
     pub second : IsFront d.v1 wire
 
-  abbrev pub NamesOne : List (List ℕ) → Said Divisor → Type 0
+  abbrev pub NamesOne : List (List ℕ) → Said Ends → Type 0
   NamesOne ws (result d) = Named d ws
   NamesOne ws none = Unit
   NamesOne ws (refused n) = Unit
 
-  later_named : (w : List ℕ) (ws : List (List ℕ)) (s : Said Divisor) → NamesOne ws s → NamesOne (w ∷ ws) s
+  later_named : (w : List ℕ) (ws : List (List ℕ)) (s : Said Ends) → NamesOne ws s → NamesOne (w ∷ ws) s
   later_named w ws (result d) m = record { wire = m.wire; stands = Memᴰ.tail m.stands; first = m.first; second = m.second }
   later_named w ws none m = tt
   later_named w ws (refused n) m = tt
 
-  next_named : (w : List ℕ) (ws : List (List ℕ)) (s next : Said Divisor) → Names w w s → NamesOne ws next → NamesOne (w ∷ ws) (or_next s next)
+  next_named : (w : List ℕ) (ws : List (List ℕ)) (s next : Said Ends) → Names w w s → NamesOne ws next → NamesOne (w ∷ ws) (or_next s next)
   next_named w ws (result d) next m later = record { wire = w; stands = Memᴰ.head refl; first = m.0; second = m.1 }
   next_named w ws none next m later = later_named w ws next later
   next_named w ws (refused n) next m later = tt
@@ -140,7 +144,7 @@ module _ (es : ℕ → Edge) (vs : ℕ → Vertex) where
   search_named [] = tt
   search_named (w ∷ ws) = next_named w ws (wire_divisor es vs w) (find_divisor es vs ws) (wire_named w) (search_named ws)
 
-  refused_named : (cause : ℕ) (ws : List (List ℕ)) (s : Said Divisor) → NamesOne ws s → NamesOne ws (refused_or cause s)
+  refused_named : (cause : ℕ) (ws : List (List ℕ)) (s : Said Ends) → NamesOne ws s → NamesOne ws (refused_or cause s)
   refused_named zero ws s m = m
   refused_named (suc n) ws s m = tt
 

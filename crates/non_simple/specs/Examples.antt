@@ -1,11 +1,10 @@
 -- Worked examples of the search. Assumes nothing.
-use Rattle.std.specs.Prelude.{◌≡◌, refl, List, [], ◌∷◌, ℕ}
+use Rattle.std.specs.Prelude.{◌≡◌, refl, List, [], ◌∷◌, ℕ, None}
 use Rattle.wires.specs.Turn.{turned}
-use Rattle.loops.specs.Loop.{nothing, insert, searched, first_repeat}
-use Rattle.loops.specs.Loop.Repeat.{none, pair}
+use Rattle.loops.specs.Loop.{nothing, insert, pair, searched, first_repeat}
 
 -- the wire of K6: 0+ 1+ 2+
-pub k6 : first_repeat 0 (0 ∷ 2 ∷ 4 ∷ []) ≡ none
+pub k6 : first_repeat 0 (0 ∷ 2 ∷ 4 ∷ []) ≡ None
 unfolding nothing insert searched first_repeat
 k6 = refl
 
@@ -28,7 +27,7 @@ unfolding nothing insert searched first_repeat
 k9_first = refl
 
 -- turned so that the earlier place is 0, it has no second pair past the later place
-pub k9_second : first_repeat 4 (turned 2 k9) ≡ none
+pub k9_second : first_repeat 4 (turned 2 k9) ≡ None
 unfolding nothing insert searched first_repeat turned
 k9_second = refl
 
@@ -44,6 +43,6 @@ pub thrice_from_1 : first_repeat 1 thrice ≡ pair 2 5
 unfolding nothing insert searched first_repeat
 thrice_from_1 = refl
 
-pub thrice_from_3 : first_repeat 3 thrice ≡ none
+pub thrice_from_3 : first_repeat 3 thrice ≡ None
 unfolding nothing insert searched first_repeat
 thrice_from_3 = refl

@@ -3,14 +3,16 @@
 
 ghost use Rattle.std.specs.Prelude.{◌≡◌, ℕ, ◌-◌, ◌/◌, ◌≤◌, ◌<◌, length, get_or, take};
 ghost use Rattle.compress.specs.Rows.{edge_at, vertex_at};
+ghost use Rattle.compress.specs.Refusals.{cause_of};
+ghost use Rattle.compress.specs.Said.{said_if};
 ghost use Rattle.compress.specs.Wires.{wires_of};
 ghost use Rattle.checks.specs.Causes.{vertices_cause, edges_cause, wires_cause};
-ghost use Rattle.nearest.specs.Ends.{said_ends};
 ghost use Rattle.divisor.specs.Divided.{turned_divisor};
-ghost use Rattle.non_simple.specs.Divisor.{wire_divisor, is_none, find_divisor, search_cause, find_non_simple};
+ghost use Rattle.non_simple.specs.Divisor.{wire_divisor, find_divisor, search_cause, find_non_simple};
 ghost use Rattle.wires.specs.Turn.{turned};
 
-use loops::Loop;
+use compress::{Checked, Refusal};
+use loops::Pair;
 use nearest::Ends;
 
 // ---- one wire
@@ -26,10 +28,14 @@ fn turned_divisor(
     wire: &[u32],
     j0: usize,
     places: &mut [u32],
-) -> Ends
-    requires vertices_value { (vertices_cause vertex_numbers.now vertex_floats.now vertices ≡ 0) × (edges_cause vertices edge_numbers.now edge_floats.now edges ≡ 0) × (edges ≤ length places.old) }
-    requires j0_nonzero { (0 < j0) × (j0 < length wire.now) × (length wire.now ≤ 1024) × ((k : ℕ) → k < length wire.now → get_or wire.now k 0 / 2 < edges) }
-    ensures { said_ends result ≡ turned_divisor (edge_at edge_numbers.now edge_floats.now) (vertex_at vertex_numbers.now vertex_floats.now) wire.now j0 }
+) -> Result<Option<Ends>, Refusal>
+    requires vertices_sound { vertices_cause vertex_numbers.now vertex_floats.now vertices ≡ 0 }
+    requires edges_sound { edges_cause vertices edge_numbers.now edge_floats.now edges ≡ 0 }
+    requires places_size { edges ≤ length places.old }
+    requires j0_in_wire { (0 < j0) × (j0 < length wire.now) }
+    requires wire_size { length wire.now ≤ 1024 }
+    requires wire_in_table { (k : ℕ) → k < length wire.now → get_or wire.now k 0 / 2 < edges }
+    ensures { said_if (λ e. e) result ≡ turned_divisor (edge_at edge_numbers.now edge_floats.now) (vertex_at vertex_numbers.now vertex_floats.now) wire.now j0 }
 {
     let found = loops::find_loop(wire, j0 + 1, places);
     divisor::divide(
@@ -45,7 +51,8 @@ fn turned_divisor(
     )
 }
 
-// The wire is turned so that place i is 0, and divided.
+// The wire is turned so that the earlier of the two places is 0, and divided.
+#[tactic(auto, using(crate::proofs::Scanning::turning))]
 fn turn_and_divide(
     vertex_numbers: &[u32],
     vertex_floats: &[f64],
@@ -54,16 +61,19 @@ fn turn_and_divide(
     vertices: usize,
     edges: usize,
     wire: &[u32],
-    i: usize,
-    j: usize,
+    first: Pair,
     places: &mut [u32],
-) -> Ends
-    requires vertices_value { (vertices_cause vertex_numbers.now vertex_floats.now vertices ≡ 0) × (edges_cause vertices edge_numbers.now edge_floats.now edges ≡ 0) × (edges ≤ length places.old) }
-    requires i_lt_j { (i < j) × (j < length wire.now) × (length wire.now ≤ 1024) × ((k : ℕ) → k < length wire.now → get_or wire.now k 0 / 2 < edges) }
-    ensures { said_ends result ≡ turned_divisor (edge_at edge_numbers.now edge_floats.now) (vertex_at vertex_numbers.now vertex_floats.now) (turned i wire.now) (j - i) }
+) -> Result<Option<Ends>, Refusal>
+    requires vertices_sound { vertices_cause vertex_numbers.now vertex_floats.now vertices ≡ 0 }
+    requires edges_sound { edges_cause vertices edge_numbers.now edge_floats.now edges ≡ 0 }
+    requires places_size { edges ≤ length places.old }
+    requires first_in_wire { (first.earlier < first.later) × (first.later < length wire.now) }
+    requires wire_size { length wire.now ≤ 1024 }
+    requires wire_in_table { (k : ℕ) → k < length wire.now → get_or wire.now k 0 / 2 < edges }
+    ensures { said_if (λ e. e) result ≡ turned_divisor (edge_at edge_numbers.now edge_floats.now) (vertex_at vertex_numbers.now vertex_floats.now) (turned first.earlier wire.now) (first.later - first.earlier) }
 {
     let mut out = [0u32; 1024];
-    wires::rotate_left(wire, i, &mut out);
+    wires::rotate_left(wire, first.earlier, &mut out);
     let n = wire.len();
     turned_divisor(
         vertex_numbers,
@@ -73,12 +83,13 @@ fn turn_and_divide(
         vertices,
         edges,
         &out[..n],
-        j - i,
+        first.later - first.earlier,
         places,
     )
 }
 
 // `non_simple_wire_divisor`: the two vertices between which a wire that uses an edge twice is to be divided.
+#[tactic(auto, using(loops::proofs::Repeats::pair_in), unfolding(crate::specs::Divisor::wire_divisor))]
 fn wire_divisor(
     vertex_numbers: &[u32],
     vertex_floats: &[f64],
@@ -88,42 +99,34 @@ fn wire_divisor(
     edges: usize,
     wire: &[u32],
     places: &mut [u32],
-) -> Ends
-    requires vertices_value { (vertices_cause vertex_numbers.now vertex_floats.now vertices ≡ 0) × (edges_cause vertices edge_numbers.now edge_floats.now edges ≡ 0) × (edges ≤ length places.old) }
-    requires wire_len_bound { (length wire.now ≤ 1024) × ((k : ℕ) → k < length wire.now → get_or wire.now k 0 / 2 < edges) }
-    ensures { said_ends result ≡ wire_divisor (edge_at edge_numbers.now edge_floats.now) (vertex_at vertex_numbers.now vertex_floats.now) wire.now }
+) -> Result<Option<Ends>, Refusal>
+    requires vertices_sound { vertices_cause vertex_numbers.now vertex_floats.now vertices ≡ 0 }
+    requires edges_sound { edges_cause vertices edge_numbers.now edge_floats.now edges ≡ 0 }
+    requires places_size { edges ≤ length places.old }
+    requires wire_size { length wire.now ≤ 1024 }
+    requires wire_in_table { (k : ℕ) → k < length wire.now → get_or wire.now k 0 / 2 < edges }
+    ensures { said_if (λ e. e) result ≡ wire_divisor (edge_at edge_numbers.now edge_floats.now) (vertex_at vertex_numbers.now vertex_floats.now) wire.now }
 {
-    let found = loops::find_loop(wire, 0, places);
-    match found {
-        Loop::Nothing => Ends::NoEnds,
-        Loop::Pair(i, j) => turn_and_divide(
-            vertex_numbers,
-            vertex_floats,
-            edge_numbers,
-            edge_floats,
-            vertices,
-            edges,
-            wire,
-            i,
-            j,
-            places,
-        ),
-    }
+    let Some(first) = loops::find_loop(wire, 0, places) else {
+        return Ok(None);
+    };
+    turn_and_divide(
+        vertex_numbers,
+        vertex_floats,
+        edge_numbers,
+        edge_floats,
+        vertices,
+        edges,
+        wire,
+        first,
+        places,
+    )
 }
 
 // ---- all wires
 
-fn is_none(e: Ends) -> bool
-    ensures { result ≡ is_none (said_ends e) }
-{
-    match e {
-        Ends::Between(_, _) => false,
-        Ends::NoEnds => true,
-        Ends::EndsRefused(_) => false,
-    }
-}
-
 // The wires in order, until one of them answers or is refused.
+#[tactic(auto, using(crate::proofs::Scanning::scanning))]
 fn search_wires(
     vertex_numbers: &[u32],
     vertex_floats: &[f64],
@@ -135,16 +138,17 @@ fn search_wires(
     lengths: &[u32],
     wires: usize,
     places: &mut [u32],
-) -> Ends
-    requires vertices_value { (vertices_cause vertex_numbers.now vertex_floats.now vertices ≡ 0) × (edges_cause vertices edge_numbers.now edge_floats.now edges ≡ 0) × (edges ≤ length places.old) }
-    requires wires_value { wires_cause edges uses.now lengths.now wires ≡ 0 }
-    ensures { said_ends result ≡ find_divisor (edge_at edge_numbers.now edge_floats.now) (vertex_at vertex_numbers.now vertex_floats.now) (wires_of uses.now (take wires lengths.now)) }
+) -> Result<Option<Ends>, Refusal>
+    requires vertices_sound { vertices_cause vertex_numbers.now vertex_floats.now vertices ≡ 0 }
+    requires edges_sound { edges_cause vertices edge_numbers.now edge_floats.now edges ≡ 0 }
+    requires places_size { edges ≤ length places.old }
+    requires wires_sound { wires_cause edges uses.now lengths.now wires ≡ 0 }
+    ensures { said_if (λ e. e) result ≡ find_divisor (edge_at edge_numbers.now edge_floats.now) (vertex_at vertex_numbers.now vertex_floats.now) (wires_of uses.now (take wires lengths.now)) }
 {
-    let mut w: usize = 0;
     let mut from: usize = 0;
-    while w < wires {
-        let to = from + lengths[w] as usize;
-        let r = wire_divisor(
+    for size in &lengths[..wires] {
+        let to = from + *size as usize;
+        let answer = wire_divisor(
             vertex_numbers,
             vertex_floats,
             edge_numbers,
@@ -153,16 +157,16 @@ fn search_wires(
             edges,
             &uses[from..to],
             places,
-        );
-        if !is_none(r) {
-            return r;
+        )?;
+        if let Some(ends) = answer {
+            return Ok(Some(ends));
         }
         from = to;
-        w += 1;
     }
-    Ends::NoEnds
+    Ok(None)
 }
 
+#[tactic(auto, unfolding(crate::specs::Divisor::search_cause))]
 fn search_cause(
     vertex_numbers: &[u32],
     vertex_floats: &[f64],
@@ -173,8 +177,8 @@ fn search_cause(
     vertices: usize,
     edges: usize,
     wires: usize,
-) -> u32
-    ensures { result ≡ search_cause vertex_numbers.now vertex_floats.now edge_numbers.now edge_floats.now uses.now lengths.now vertices edges wires }
+) -> Checked
+    ensures { cause_of result ≡ search_cause vertex_numbers.now vertex_floats.now edge_numbers.now edge_floats.now uses.now lengths.now vertices edges wires }
 {
     let t = points::tables_cause(
         vertex_numbers,
@@ -189,6 +193,7 @@ fn search_cause(
 }
 
 // `find_non_simple_wire_divisor`: of the wires in order the first that can be divided, by the two vertices between which it is.
+#[tactic(auto, using(crate::proofs::Scanning::checked), unfolding(crate::specs::Divisor::find_non_simple))]
 pub fn find_non_simple_wire_divisor(
     vertex_numbers: &[u32],
     vertex_floats: &[f64],
@@ -199,10 +204,10 @@ pub fn find_non_simple_wire_divisor(
     vertices: usize,
     edges: usize,
     wires: usize,
-) -> Ends
-    ensures { said_ends result ≡ find_non_simple vertex_numbers.now vertex_floats.now edge_numbers.now edge_floats.now uses.now lengths.now vertices edges wires }
+) -> Result<Option<Ends>, Refusal>
+    ensures { said_if (λ e. e) result ≡ find_non_simple vertex_numbers.now vertex_floats.now edge_numbers.now edge_floats.now uses.now lengths.now vertices edges wires }
 {
-    let cause = search_cause(
+    search_cause(
         vertex_numbers,
         vertex_floats,
         edge_numbers,
@@ -212,10 +217,7 @@ pub fn find_non_simple_wire_divisor(
         vertices,
         edges,
         wires,
-    );
-    if cause != 0 {
-        return Ends::EndsRefused(compress::refusal_of(cause));
-    }
+    )?;
     let mut places = [0u32; 4096];
     search_wires(
         vertex_numbers,

@@ -10,19 +10,21 @@ use lib.Seq.{length-take-le, take-set-lt}
 use lib.Dec.{eqb, leb, ltb}
 use borrow.Author.Tests.{leb-false, ltb-false}
 use lib.Ieee.{Float, nan}
-use Rattle.compress.specs.declared.Refusal.TheVariants.{NoRoom, SeveralCuts}
+use Rattle.std.specs.Prelude.{Option, None, Result, Ok, Err, is_ok}
+use Rattle.compress.specs.declared.Refusal.{Refusal}
+use Rattle.compress.specs.declared.Refusal.TheVariants as refusal
+use Rattle.compress.specs.Said.{result, refused}
 use Rattle.compress.specs.Layout.{store, put, store_from, rows}
 use Rattle.compress.specs.Shell.{Shell, Lent, load, counts_of, vertices_fit, edges_fit}
 use Rattle.checks.specs.Causes.{wires_cause, edge_number_cause, lower_of, when}
-use Rattle.mending.specs.declared.Mend.{Mend}
-use Rattle.mending.specs.Steps.{InPlace}
-use Rattle.cuts.proofs.Small.{cuts_small}
-use Rattle.cutting.proofs.Outcome.{result_full, result_done, Accepted, accepted, vertices_stand, input_small, way_cause}
+use Rattle.mending.specs.declared.NoRoom.{NoRoom}
+use Rattle.mending.specs.Steps.{InPlace, count_told}
+use Rattle.cutting.proofs.Outcome.{result_full, result_done, Accepted, accepted, vertices_stand, way_cause}
 use Rattle.compress.specs.declared.Curve.{Curve}
 use Rattle.compress.specs.declared.Edge.{Edge}
 use Rattle.compress.specs.declared.Vertex.TheVariants.{Given}
 use Rattle.compress.specs.Records.{pick, first_of, last_of}
-use Rattle.compress.specs.Refusals.{refusal_of}
+use Rattle.compress.specs.Refusals.{refusal_number}
 use Rattle.compress.specs.Rows.{curve_of, edge_of, edge_at, vertex_at, edge_number_layout, edge_float_layout, vertex_number_layout, vertex_float_layout}
 use Rattle.compress.specs.Wires.{total, wires_of, uses_of}
 use Rattle.compress.proofs.Layouts.{length_rows, rows_none, rows_first, store_first, store_none, store_append, store_set}
@@ -30,16 +32,12 @@ use Rattle.compress.proofs.Room.{both, vertices_room, edges_room}
 use Rattle.compress.proofs.Rows.{edge_numbers_fit, edge_floats_fit, edge_numbers_stand, edge_floats_stand}
 use Rattle.checks.proofs.Accepted.{passed, not_when}
 use Rattle.checks.proofs.Lowest.{lower_none}
-use Rattle.checks.proofs.Small.{when_small, lower_small, refusal_told}
-use Rattle.cutting.specs.declared.Split.TheVariants.{Done, Refused}
 use Rattle.cut_edge.specs.Cut.{halves_of}
 use Rattle.mending.specs.Replace.{replace_wires}
-use Rattle.cutting.specs.Contract.{Outcome, lent_of, leaves, input_cause}
+use Rattle.cutting.specs.Contract.{lent_of, leaves, input_cause}
 use Rattle.cuts.specs.declared.Cut.{Cut}
 use Rattle.cuts.specs.Cuts.{cut_at, cuts_cause}
 use Rattle.one_cut.specs.Cut.{added_at, cut_once}
-use Rattle.one_cut.specs.declared.Asked.{Asked}
-use Rattle.one_cut.specs.declared.Asked.TheVariants.{Once}
 use Rattle.one_cut.specs.Steps.{asks}
 use Rattle.one_cut.specs.Contract.{one_cut_cause, once_outcome, cut_by, cut_outcome}
 
@@ -69,14 +67,9 @@ unfolding one_cut_cause
 cause_found l i cs n p q hs he hc hd hr =
     rw (first_at l.slices.en l.slices.ef i, last_at l.slices.en l.slices.ef i) (rw (hr, hd, hc, he, hs, p, q))
 
--- what is asked for holds of the answer as it is known to be
-pub asked_is : (l : Lent) (i : ℕ) (cs : List Float) (n : ℕ) {a b : Asked} → a ≡ b → asks l i cs n a → asks l i cs n b
-asked_is l i cs n p h = rw p at h
-
--- one cut is asked for, and o is its outcome: o is the call's
-pub asked_once : (l : Lent) (i : ℕ) (cs : List Float) (n : ℕ) {a : Asked} {c : Cut} {o : Outcome}
-    → a ≡ Once c → asks l i cs n a → o ≡ once_outcome l i c → o ≡ cut_outcome l i cs n
-asked_once l i cs n {c = c} p h q = q ∙ (asked_is l i cs n {b = Once c} p h).2
+-- what was asked for, once the answer is known to be "no cut"
+pub asked_is : (l : Lent) (i : ℕ) (cs : List Float) (n : ℕ) {r : Result (Option Cut) Refusal} {a : Option Cut} → r ≡ Ok a → a ≡ None → asks l i cs n r → asks l i cs n (Ok None)
+asked_is l i cs n p q h = rw (p, q) at h
 
 -- ---- the map
 take_replicate : {A : Type 0} (a : A) (n k : ℕ) → n ≤ k → take n (replicate k a) ≡ replicate n a
@@ -129,7 +122,7 @@ module _ (vn : List ℕ) (vf : List Float) (en : List ℕ) (ef : List Float) (us
 
   module _ (z : input_cause (lent_of vn vf en ef us ls v e w) ≡ 0) (room : ℕ)
       (has : (k : ℕ) → leb k room ≡ (vertices_fit vn vf (v + k) && edges_fit en ef (e + k)))
-      (us' ls' : List ℕ) (m : Mend) (M : InPlace (replace_wires (added_at e i e) (wires_of us (take w ls))) (leb 1 room) us ls us' ls' m) where
+      (us' ls' : List ℕ) (m : Result ℕ NoRoom) (M : InPlace (replace_wires (added_at e i e) (wires_of us (take w ls))) (leb 1 room) us ls us' ls' m) where
     A : Accepted vn vf en ef us ls v e w
     A = accepted vn vf en ef us ls v e w z
 
@@ -151,13 +144,14 @@ module _ (vn : List ℕ) (vf : List Float) (en : List ℕ) (ef : List Float) (us
     mended = rw (length_rows (edge_at en ef) 0 e) M
 
     -- no room: 6, and nothing written
-    pub outcome_full : m.fits ≡ false → leaves (Refused NoRoom) vn vf en ef us' ls' ≡ once_outcome (lent_of vn vf en ef us ls v e w) i c
+    pub outcome_full : (x : NoRoom) → m ≡ Err x → leaves (Err refusal.NoRoom) vn vf en ef us' ls' ≡ once_outcome (lent_of vn vf en ef us ls v e w) i c
     unfolding once_outcome
-    outcome_full t = result_full vn vf en ef us ls v e w after 1 vertices_are edges_are room has us' ls' m mended t
+    outcome_full x q = result_full vn vf en ef us ls v e w after 1 vertices_are edges_are room has us' ls' m mended (rw q)
 
     -- room: a row for the new vertex, and one for the new edge
-    pub places : m.fits ≡ true → ((v < 4096) × (v * 3 + 3 ≤ length vn) × (v * 7 + 7 ≤ length vf)) × ((e * 4 + 4 ≤ length en) × (e * 6 + 6 ≤ length ef))
-    places t =
+    pub places : (n : ℕ) → m ≡ Ok n → ((v < 4096) × (v * 3 + 3 ≤ length vn) × (v * 7 + 7 ≤ length vf)) × ((e * 4 + 4 ≤ length en) × (e * 6 + 6 ≤ length ef))
+    places n q =
+        let t : is_ok m ≡ true = rw q in
         let f = both (vertices_fit vn vf (v + 1)) (edges_fit en ef (e + 1)) (sym (has 1) ∙ (both (leb 1 room) _ (sym M.fits ∙ t)).0) in
         let a = vertices_room vn vf (v + 1) f.0 in
         let b = edges_room en ef (e + 1) f.1 in
@@ -194,15 +188,17 @@ module _ (vn : List ℕ) (vf : List Float) (en : List ℕ) (ef : List Float) (us
         let t = edges_put lt v in
         (rw (s.0, store_first, store_none), rw (s.1, store_first, store_none), rw lv t.0, rw lv t.1)
 
-    pub outcome_done : (vn' : List ℕ) (vf' : List Float) (en' : List ℕ) (ef' : List Float) → m.fits ≡ true → i < e
+    pub outcome_done : (vn' : List ℕ) (vf' : List Float) (en' : List ℕ) (ef' : List Float) (n : ℕ) → m ≡ Ok n → i < e
         → vn' ≡ put vertex_number_layout vn v (Given c.x c.y c.z) → vf' ≡ put vertex_float_layout vf v (Given c.x c.y c.z)
         → en' ≡ put edge_number_layout (put edge_number_layout en i (halves_of edge_in c.t v).old) e (halves_of edge_in c.t v).new
         → ef' ≡ put edge_float_layout (put edge_float_layout ef i (halves_of edge_in c.t v).old) e (halves_of edge_in c.t v).new
-        → leaves (Done (v + 1) (e + 1) m.uses) vn' vf' en' ef' us' ls' ≡ once_outcome (lent_of vn vf en ef us ls v e w) i c
+        → leaves (Ok (record { vertices = v + 1; edges = e + 1; uses = n })) vn' vf' en' ef' us' ls' ≡ once_outcome (lent_of vn vf en ef us ls v e w) i c
     unfolding once_outcome
-    outcome_done vn' vf' en' ef' t lt ev evf ee eef =
+    outcome_done vn' vf' en' ef' n q lt ev evf ee eef =
         let s = tables lt in
-        result_done vn vf en ef us ls v e w after 1 vertices_are edges_are room has us' ls' m mended vn' vf' en' ef' t (ev ∙ sym s.0) (evf ∙ sym s.1) (ee ∙ sym s.2) (eef ∙ sym s.3)
+        let t : is_ok m ≡ true = rw q in
+        let k : count_told m ≡ n = rw q in
+        rw (← k) (result_done vn vf en ef us ls v e w after 1 vertices_are edges_are room has us' ls' m mended vn' vf' en' ef' t (ev ∙ sym s.0) (evf ∙ sym s.1) (ee ∙ sym s.2) (eef ∙ sym s.3))
 
 -- ---- the call: its ways out
 -- the uses of the wires are those that lie in front
@@ -216,19 +212,11 @@ uses_lent us (n ∷ ls) h =
     length-append (take n us) (uses_of (wires_of (drop n us) ls)) ∙ rw (a, r)
 
 module _ (vn : List ℕ) (vf : List Float) (en : List ℕ) (ef : List Float) (us ls : List ℕ) (v e w i : ℕ) (cs : List Float) (n : ℕ) where
-  cause_small : one_cut_cause (lent_of vn vf en ef us ls v e w) i cs n ≤ 15
-  unfolding one_cut_cause
-  cause_small =
-      lower_small (input_cause (lent_of vn vf en ef us ls v e w)) _ (input_small vn vf en ef us ls v e w)
-      (lower_small (when (leb e i) 3) _ (when_small (leb e i) 3 (omega arith)) (cuts_small (first_of (edge_at en ef i).curve) (last_of (edge_at en ef i).curve) cs n))
-
   -- a cause: its refusal, and nothing written
-  pub call_cause : (k : ℕ) → k ≡ one_cut_cause (lent_of vn vf en ef us ls v e w) i cs n → (k ≡ 0 → ⊥)
-      → leaves (Refused (refusal_of k)) vn vf en ef us ls ≡ cut_outcome (lent_of vn vf en ef us ls v e w) i cs n
+  pub call_cause : (r : Refusal) → refusal_number r ≡ one_cut_cause (lent_of vn vf en ef us ls v e w) i cs n
+      → record { said = refused (refusal_number r); slices = (lent_of vn vf en ef us ls v e w).slices } ≡ cut_outcome (lent_of vn vf en ef us ls v e w) i cs n
   unfolding cut_outcome
-  call_cause k q ne =
-      let small : k ≤ 15 = rw q cause_small in
-      rw (refusal_told k small ne, ← q, way_cause k _ _ ne)
+  call_cause r q = way_cause r _ _ _ q
 
   pub call_checked : (k : ℕ) → k ≡ one_cut_cause (lent_of vn vf en ef us ls v e w) i cs n → k ≡ 0
       → (input_cause (lent_of vn vf en ef us ls v e w) ≡ 0) × (i < e) × (n * 4 ≤ length cs)
@@ -246,15 +234,12 @@ module _ (vn : List ℕ) (vf : List Float) (en : List ℕ) (ef : List Float) (us
     by_cuts = rw (← q, z)
 
     -- no cut
-    pub call_none : n ≡ 0 → (t : ℕ) → t ≡ total (take w ls)
-        → leaves (Done v e t) vn vf en ef us ls ≡ cut_outcome (lent_of vn vf en ef us ls v e w) i cs n
-    unfolding load counts_of
-    call_none p t d =
-        let A = accepted vn vf en ef us ls v e w (call_checked k q z).0 in
-        rw (by_cuts, p, rows_none (cut_at cs) 0, length_rows (vertex_at vn vf) 0 v, length_rows (edge_at en ef) 0 e, uses_lent us (take w ls) A.wires.uses, d)
+    pub call_none : n ≡ 0 → record { said = result (counts_of (load (lent_of vn vf en ef us ls v e w))); slices = (lent_of vn vf en ef us ls v e w).slices }
+        ≡ cut_outcome (lent_of vn vf en ef us ls v e w) i cs n
+    call_none p = rw (by_cuts, p, rows_none (cut_at cs) 0)
 
     -- two or more
-    pub call_several : 1 < n → leaves (Refused SeveralCuts) vn vf en ef us ls ≡ cut_outcome (lent_of vn vf en ef us ls v e w) i cs n
+    pub call_several : 1 < n → record { said = refused 14; slices = (lent_of vn vf en ef us ls v e w).slices } ≡ cut_outcome (lent_of vn vf en ef us ls v e w) i cs n
     call_several h =
         let m = n - 2 in
         let p : rows (cut_at cs) 0 n ≡ cut_at cs 0 ∷ rows (cut_at cs) 1 (suc m) = rows_first (cut_at cs) 0 n (suc m) (omega arith) in
@@ -264,3 +249,12 @@ module _ (vn : List ℕ) (vf : List Float) (en : List ℕ) (ef : List Float) (us
     -- one
     pub call_once : n ≡ 1 → (c : Cut) → c ≡ cut_at cs 0 → once_outcome (lent_of vn vf en ef us ls v e w) i c ≡ cut_outcome (lent_of vn vf en ef us ls v e w) i cs n
     call_once p c d = rw (by_cuts, p, rows_first (cut_at cs) 0 1 0 refl, rows_none (cut_at cs) 1, ← d)
+
+  -- where nothing is cut, the counts are those of the shell
+  pub call_left : input_cause (lent_of vn vf en ef us ls v e w) ≡ 0 → (t : ℕ) → t ≡ total (take w ls)
+      → leaves (Ok (record { vertices = v; edges = e; uses = t })) vn vf en ef us ls
+      ≡ record { said = result (counts_of (load (lent_of vn vf en ef us ls v e w))); slices = (lent_of vn vf en ef us ls v e w).slices }
+  unfolding load counts_of
+  call_left z t d =
+      let A = accepted vn vf en ef us ls v e w z in
+      rw (length_rows (vertex_at vn vf) 0 v, length_rows (edge_at en ef) 0 e, uses_lent us (take w ls) A.wires.uses, d)

@@ -2,8 +2,9 @@
 // are mended.
 #![tactic(auto)]
 
-ghost use Rattle.std.specs.Prelude.{◌≡◌, ◌≤◌, ◌<◌, leb, length, get_or, set, take, replicate};
+ghost use Rattle.std.specs.Prelude.{◌≡◌, ◌≤◌, ◌<◌, leb, get_or, take};
 ghost use Rattle.std.specs.Float.{nan};
+ghost use Rattle.compress.specs.Refusals.{cause_of};
 ghost use Rattle.compress.specs.Wires.{wires_of};
 ghost use Rattle.checks.specs.Causes.{wires_cause};
 ghost use Rattle.mending.specs.Replace.{replace_wires};
@@ -13,17 +14,9 @@ ghost use Rattle.one_cut.specs.Cut.{added_at};
 ghost use Rattle.one_cut.specs.Contract.{one_cut_cause, once_outcome, cut_outcome};
 ghost use Rattle.one_cut.specs.Steps.{asks};
 
-use compress::Refusal;
+use compress::{Checked, Counts, Refusal};
 use cuts::Cut;
-use cutting::Split;
-use mending::Mend;
-
-// What a call comes to after its checks: an answer that changes nothing, or one cut that is to be made.
-#[derive(Clone, Copy)]
-enum Asked {
-    Answer(Split),
-    Once(Cut),
-}
+use mending::NoRoom;
 
 // ---- causes
 
@@ -31,10 +24,7 @@ enum Asked {
 fn float_at(floats: &[f64], i: usize) -> f64
     ensures { result ≡ get_or floats.now i nan }
 {
-    if i < floats.len() {
-        return floats[i];
-    }
-    0.0 / 0.0
+    floats.get(i).copied().unwrap_or(f64::NAN)
 }
 
 // Causes 1 to 5, over all that is lent.
@@ -51,8 +41,8 @@ fn one_cut_cause(
     wires: usize,
     edge: u32,
     count: usize,
-) -> u32
-    ensures { result ≡ one_cut_cause (lent_of vertex_numbers.now vertex_floats.now edge_numbers.now edge_floats.now uses.now lengths.now vertices edges wires) edge cuts.now count }
+) -> Checked
+    ensures { cause_of result ≡ one_cut_cause (lent_of vertex_numbers.now vertex_floats.now edge_numbers.now edge_floats.now uses.now lengths.now vertices edges wires) edge cuts.now count }
 {
     let b = edge as usize * 6;
     let t0 = float_at(edge_floats, b + 4);
@@ -73,7 +63,7 @@ fn one_cut_cause(
     checks::lower(shell, checks::lower(number, c))
 }
 
-// What the call comes to before anything is cut: no cut changes nothing, one is to be made, and two or more are refused.
+// The cut that is to be made, if any: no cut changes nothing, and two or more are refused.
 fn judge(
     vertex_numbers: &[u32],
     vertex_floats: &[f64],
@@ -87,10 +77,10 @@ fn judge(
     wires: usize,
     edge: u32,
     count: usize,
-) -> Asked
+) -> Result<Option<Cut>, Refusal>
     ensures { asks (lent_of vertex_numbers.now vertex_floats.now edge_numbers.now edge_floats.now uses.now lengths.now vertices edges wires) edge cuts.now count result }
 {
-    let cause = one_cut_cause(
+    one_cut_cause(
         vertex_numbers,
         vertex_floats,
         edge_numbers,
@@ -103,54 +93,36 @@ fn judge(
         wires,
         edge,
         count,
-    );
-    if cause != 0 {
-        return Asked::Answer(Split::Refused(compress::refusal_of(cause)));
+    )?;
+    match count {
+        0 => Ok(None),
+        1 => Ok(Some(cuts::cut_at(cuts, 0))),
+        _ => Err(Refusal::SeveralCuts),
     }
-    if count == 0 {
-        let n = checks::total_uses(lengths, wires);
-        return Asked::Answer(Split::Done {
-            vertices,
-            edges,
-            uses: n,
-        });
-    }
-    if count > 1 {
-        return Asked::Answer(Split::Refused(Refusal::SeveralCuts));
-    }
-    Asked::Once(cuts::cut_at(cuts, 0))
 }
 
 // ---- the wires
 
-// The map of `replace_edges` where just edge i is cut, and m is cut off it. The table holds zeros.
-fn mark_cut(added: &mut [u32], i: usize, m: usize)
-    requires { (i < length added.old) × (m ≤ 4096) }
-    ensures { added.new ≡ set added.old i m }
-{
-    added[i] = m as u32;
-}
-
-// The wires are mended in place after edge i of `edges` is cut, by a map that is made in a table of zeros. `room` is how many cuts the tables of
-// the shell have room for.
-fn mend_marked(
+// The wires are mended in place after edge i of `edges` is cut, by the map of `replace_edges` where just that edge is cut. It is made in a table
+// of N entries. `room` is how many cuts the tables of the shell have room for.
+fn mend_within<const N: usize>(
     uses: &mut [u32],
     lengths: &mut [u32],
     wires: usize,
     edges: usize,
     i: usize,
     room: usize,
-    added: &mut [u32],
-) -> Mend
-    requires i_lt_edges { (i < edges) × (edges ≤ 4096) × (wires_cause edges uses.old lengths.old wires ≡ 0) }
-    requires added_value { (added.old ≡ replicate (length added.old) 0) × (edges ≤ length added.old) }
+) -> Result<usize, NoRoom>
+    requires table { (i < edges) × (edges ≤ N) × (N ≤ 4096) }
+    requires wires_value { wires_cause edges uses.old lengths.old wires ≡ 0 }
     ensures { InPlace (replace_wires (added_at edges i edges) (wires_of uses.old (take wires lengths.old))) (leb 1 room) uses.old lengths.old uses.new lengths.new result }
 {
-    mark_cut(added, i, edges);
+    let mut added = [0u32; N];
+    added[i] = edges as u32;
     mending::mend_wires(uses, lengths, wires, &added[..edges], 1 <= room)
 }
 
-// The same with a table of its own. Few edges have a small one, since to zero it takes time.
+// The same by a table that is large enough: few edges have a small one, since to zero it takes time.
 fn mend_cut(
     uses: &mut [u32],
     lengths: &mut [u32],
@@ -158,16 +130,16 @@ fn mend_cut(
     edges: usize,
     i: usize,
     room: usize,
-) -> Mend
-    requires { (i < edges) × (edges ≤ 4096) × (wires_cause edges uses.old lengths.old wires ≡ 0) }
+) -> Result<usize, NoRoom>
+    requires table { (i < edges) × (edges ≤ 4096) }
+    requires wires_value { wires_cause edges uses.old lengths.old wires ≡ 0 }
     ensures { InPlace (replace_wires (added_at edges i edges) (wires_of uses.old (take wires lengths.old))) (leb 1 room) uses.old lengths.old uses.new lengths.new result }
 {
     if edges <= 64 {
-        let mut added = [0u32; 64];
-        return mend_marked(uses, lengths, wires, edges, i, room, &mut added);
+        mend_within::<64>(uses, lengths, wires, edges, i, room)
+    } else {
+        mend_within::<4096>(uses, lengths, wires, edges, i, room)
     }
-    let mut added = [0u32; 4096];
-    mend_marked(uses, lengths, wires, edges, i, room, &mut added)
 }
 
 // ---- the call
@@ -185,7 +157,7 @@ fn cut_checked(
     wires: usize,
     i: usize,
     c: Cut,
-) -> Split
+) -> Result<Counts, Refusal>
     requires { (input_cause (lent_of vertex_numbers.old vertex_floats.old edge_numbers.old edge_floats.old uses.old lengths.old vertices edges wires) ≡ 0) × (i < edges) }
     ensures { leaves result vertex_numbers.new vertex_floats.new edge_numbers.new edge_floats.new uses.new lengths.new ≡ once_outcome (lent_of vertex_numbers.old vertex_floats.old edge_numbers.old edge_floats.old uses.old lengths.old vertices edges wires) i c }
 {
@@ -197,25 +169,22 @@ fn cut_checked(
         vertices,
         edges,
     );
-    let m = mend_cut(uses, lengths, wires, edges, i, room);
-    if m.fits {
-        cuts::put_cut(
-            vertex_numbers,
-            vertex_floats,
-            edge_numbers,
-            edge_floats,
-            i,
-            vertices,
-            edges,
-            c,
-        );
-        return Split::Done {
-            vertices: vertices + 1,
-            edges: edges + 1,
-            uses: m.uses,
-        };
-    }
-    Split::Refused(Refusal::NoRoom)
+    let uses = mend_cut(uses, lengths, wires, edges, i, room)?;
+    cuts::put_cut(
+        vertex_numbers,
+        vertex_floats,
+        edge_numbers,
+        edge_floats,
+        i,
+        vertices,
+        edges,
+        c,
+    );
+    Ok(Counts {
+        vertices: vertices + 1,
+        edges: edges + 1,
+        uses,
+    })
 }
 
 // `cut_edge_by_intersections` with `insert_new_edges`: no cut changes nothing, one cuts the edge and mends every wire, in place, and two or
@@ -233,7 +202,7 @@ pub fn cut_edge_by_intersections(
     wires: usize,
     edge: u32,
     count: usize,
-) -> Split
+) -> Result<Counts, Refusal>
     ensures { leaves result vertex_numbers.new vertex_floats.new edge_numbers.new edge_floats.new uses.new lengths.new ≡ cut_outcome (lent_of vertex_numbers.old vertex_floats.old edge_numbers.old edge_floats.old uses.old lengths.old vertices edges wires) edge cuts.now count }
 {
     let asked = judge(
@@ -249,21 +218,25 @@ pub fn cut_edge_by_intersections(
         wires,
         edge,
         count,
-    );
-    match asked {
-        Asked::Answer(answer) => answer,
-        Asked::Once(c) => cut_checked(
-            vertex_numbers,
-            vertex_floats,
-            edge_numbers,
-            edge_floats,
-            uses,
-            lengths,
+    )?;
+    let Some(c) = asked else {
+        return Ok(Counts {
             vertices,
             edges,
-            wires,
-            edge as usize,
-            c,
-        ),
-    }
+            uses: checks::total_uses(lengths, wires),
+        });
+    };
+    cut_checked(
+        vertex_numbers,
+        vertex_floats,
+        edge_numbers,
+        edge_floats,
+        uses,
+        lengths,
+        vertices,
+        edges,
+        wires,
+        edge as usize,
+        c,
+    )
 }

@@ -8,6 +8,7 @@ use mathlib.Core.List.{List, [], ◌∷◌, ◌++◌, Memᴰ}
 use Prim.Native.Nat.{ℕ}
 use lib.Dec.{T, lit<, lit≤}
 use lib.Ieee.{Float, binary64, add, sub, mul, neg, lt, le, fits, of_bits}
+use Rattle.std.specs.Prelude.{Option, Some, None}
 use Rattle.floats.specs.Exact.{two}
 use Rattle.floats.specs.Value.{Held}
 use Rattle.floats.specs.Rounds.{neg_held}
@@ -17,8 +18,6 @@ use Rattle.floats.proofs.Sized.{Sized, sized_under}
 use Rattle.floats.proofs.Distance.{distance2_uv_under}
 use Rattle.compress.specs.declared.Uv.{Uv}
 use Rattle.compress.specs.Records.{pick}
-use Rattle.periodic.specs.declared.Period.{Period}
-use Rattle.periodic.specs.declared.Period.TheVariants.{Absent, Every}
 use Rattle.compress.specs.Choice.{zero64}
 use Rattle.periodic.specs.Unwrap.{one, candidates_of, away_from, nearest_of, unwrapped}
 use Rattle.periodic.specs.Copies.{first_shift, later_shifts, shifts_of, shifted, copies_along, copies_over, from, nearest_copy_of}
@@ -26,7 +25,7 @@ use Rattle.compress.proofs.Choices.{smallest_member}
 use Rattle.periodic.proofs.Choices.{smallest_least}
 
 -- ---- unwrapping: the answer is one of the five candidates
-pub unwrapped_member : (u u0 p : Float) → Memᴰ (unwrapped u u0 (Every p)) (candidates_of u p)
+pub unwrapped_member : (u u0 p : Float) → Memᴰ (unwrapped u u0 (Some p)) (candidates_of u p)
 unfolding unwrapped nearest_of
 unwrapped_member u u0 p = smallest_member (away_from u0) _ _
 
@@ -78,29 +77,29 @@ candidates_held u u0 p hu h0 hp x m =
     (Memᴰ.cases_cons m)
 
 pub unwrapped_nearest : (u u0 p : Float) → Sized u → Sized u0 → Sized p → (c : Float) → Memᴰ c (candidates_of u p)
-    → T (le (away_from u0 (unwrapped u u0 (Every p))) (away_from u0 c))
+    → T (le (away_from u0 (unwrapped u u0 (Some p))) (away_from u0 c))
 unfolding unwrapped nearest_of
 unwrapped_nearest u u0 p hu h0 hp c m = smallest_least (away_from u0) _ _ (candidates_held u u0 p hu h0 hp) c m
 
 -- ---- nearest copy: the answer is one of the copies, and none is nearer
-pub copy_member : (p q : Uv) (up vp : Period)
+pub copy_member : (p q : Uv) (up vp : Option Float)
     → Memᴰ (nearest_copy_of p q up vp)
     (shifted q (first_shift up) (first_shift vp) ∷ copies_along q (first_shift up) (later_shifts vp) ++ copies_over q (later_shifts up) vp)
 unfolding nearest_copy_of
 copy_member p q up vp = smallest_member (from p) _ _
 
 -- a period that is absent or of a size that is accepted
-abbrev pub SizedPeriod : Period → Type 0
-SizedPeriod Absent = Unit
-SizedPeriod (Every p) = Sized p
+abbrev pub SizedPeriod : Option Float → Type 0
+SizedPeriod None = Unit
+SizedPeriod (Some p) = Sized p
 
 neg_under : {k : ℕ} {x : Float} → Under binary64 k x → Under binary64 k (neg x)
 neg_under {k} {x} h = record { held = neg_held h.held; small = rw (neg_mag binary64 x) h.small }
 
-shifts_under : (period : Period) → SizedPeriod period → (d : Float) → Memᴰ d (shifts_of period) → Under binary64 1125 d
-shifts_under Absent s d m =
+shifts_under : (period : Option Float) → SizedPeriod period → (d : Float) → Memᴰ d (shifts_of period) → Under binary64 1125 d
+shifts_under None s d m =
     ⊎_elim (λ (e : d ≡ zero64). rw e (weaken (lit≤ tt) zero_under)) (λ m. absurd (Memᴰ.not-nil m)) (Memᴰ.cases_cons m)
-shifts_under (Every p) s d m =
+shifts_under (Some p) s d m =
     let h : Under binary64 1125 p = weaken (lit≤ tt) (sized_under s) in
     let by : (x : Float) → Under binary64 1125 x → d ≡ x → Under binary64 1125 d = λ x u e. rw e u in
     ⊎_elim (by _ (mul_under 1125 (lit< tt) (lit≤ tt) minus_two_under (sized_under s)))
@@ -128,14 +127,14 @@ module _ (q : Uv) (hu : Sized q.u) (hv : Sized q.v) where
       ⊎_elim (λ (e : x ≡ shifted q du dv). rw e (shifted_under du dv a (ds dv (Memᴰ.head refl))))
       (λ t. along_under du a dvs (λ d i. ds d (Memᴰ.tail i)) x t) (Memᴰ.cases_cons m)
 
-  over_under : (vp : Period) → SizedPeriod vp → (dus : List Float) → ((d : Float) → Memᴰ d dus → Under binary64 1125 d)
+  over_under : (vp : Option Float) → SizedPeriod vp → (dus : List Float) → ((d : Float) → Memᴰ d dus → Under binary64 1125 d)
       → (x : Uv) → Memᴰ x (copies_over q dus vp) → CopyUnder x
   over_under vp s [] ds x m = absurd (Memᴰ.not-nil m)
   over_under vp s (du ∷ dus) ds x m =
       ⊎_elim (along_under du (ds du (Memᴰ.head refl)) (shifts_of vp) (shifts_under vp s) x)
       (over_under vp s dus (λ d i. ds d (Memᴰ.tail i)) x) (Memᴰ.append_cases (copies_along q du (shifts_of vp)) m)
 
-  copies_under : (up vp : Period) → SizedPeriod up → SizedPeriod vp → (x : Uv)
+  copies_under : (up vp : Option Float) → SizedPeriod up → SizedPeriod vp → (x : Uv)
       → Memᴰ x (shifted q (first_shift up) (first_shift vp) ∷ copies_along q (first_shift up) (later_shifts vp) ++ copies_over q (later_shifts up) vp) → CopyUnder x
   copies_under up vp su sv x m =
       let us = shifts_under up su in
@@ -147,7 +146,7 @@ module _ (q : Uv) (hu : Sized q.u) (hv : Sized q.v) where
       (Memᴰ.append_cases (copies_along q (first_shift up) (later_shifts vp)) t))
       (Memᴰ.cases_cons m)
 
-pub copy_nearest : (p q : Uv) (up vp : Period) → Sized p.u → Sized p.v → Sized q.u → Sized q.v → SizedPeriod up → SizedPeriod vp
+pub copy_nearest : (p q : Uv) (up vp : Option Float) → Sized p.u → Sized p.v → Sized q.u → Sized q.v → SizedPeriod up → SizedPeriod vp
     → (c : Uv) → Memᴰ c (shifted q (first_shift up) (first_shift vp) ∷ copies_along q (first_shift up) (later_shifts vp) ++ copies_over q (later_shifts up) vp)
     → T (le (from p (nearest_copy_of p q up vp)) (from p c))
 unfolding nearest_copy_of

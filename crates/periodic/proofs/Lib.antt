@@ -1,3 +1,3 @@
 pub mod Choices
-pub mod Refused
+pub mod Copies
 pub mod Laws

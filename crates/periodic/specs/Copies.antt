@@ -1,29 +1,24 @@
 -- Nearest copy (`periodic_iterator` with the `min_by` over it). Definitions only.
-use Rattle.std.specs.Prelude.{List, [], ◌∷◌, ◌++◌, ℕ, Float}
+use Rattle.std.specs.Prelude.{List, [], ◌∷◌, ◌++◌, ℕ, Option, Some, None, Float}
 use Rattle.std.specs.Float.{binary64}
 use Rattle.std.specs.Float.Ieee.{add, mul, neg}
 use Rattle.floats.specs.Exact.{two, distance2_uv}
 use Rattle.compress.specs.declared.Uv.{Uv}
-use Rattle.compress.specs.Refusals.{refusal_number}
-use Rattle.compress.specs.Said.{Said, result, refused, refused_or}
+use Rattle.compress.specs.Said.{Said, result, refused_or}
 use Rattle.checks.specs.Causes.{lower_of, uv_cause}
-use Rattle.periodic.specs.declared.Period.{Period}
-use Rattle.periodic.specs.declared.Period.TheVariants.{Absent, Every}
-use Rattle.periodic.specs.declared.NearestCopy.{NearestCopy}
-use Rattle.periodic.specs.declared.NearestCopy.TheVariants.{At, NoCopy}
 use Rattle.compress.specs.Choice.{zero64, smallest}
 use Rattle.periodic.specs.Unwrap.{period_cause_of}
 
 -- "Shifts are -2, -1, 0, 1, 2 periods, ..; an absent period has the shift 0 only."
-abbrev pub first_shift : Period → Float
-first_shift Absent = zero64
-first_shift (Every p) = mul binary64 (neg two) p
+abbrev pub first_shift : Option Float → Float
+first_shift None = zero64
+first_shift (Some p) = mul binary64 (neg two) p
 
-abbrev pub later_shifts : Period → List Float
-later_shifts Absent = []
-later_shifts (Every p) = neg p ∷ zero64 ∷ p ∷ mul binary64 two p ∷ []
+abbrev pub later_shifts : Option Float → List Float
+later_shifts None = []
+later_shifts (Some p) = neg p ∷ zero64 ∷ p ∷ mul binary64 two p ∷ []
 
-abbrev pub shifts_of : Period → List Float
+abbrev pub shifts_of : Option Float → List Float
 shifts_of period = first_shift period ∷ later_shifts period
 
 abbrev pub shifted : Uv → Float → Float → Uv
@@ -35,7 +30,7 @@ copies_along q du [] = []
 copies_along q du (dv ∷ dvs) = shifted q du dv ∷ copies_along q du dvs
 
 -- "u outermost"
-abbrev pub copies_over : Uv → List Float → Period → List Uv
+abbrev pub copies_over : Uv → List Float → Option Float → List Uv
 copies_over q [] vp = []
 copies_over q (du ∷ dus) vp = copies_along q du (shifts_of vp) ++ copies_over q dus vp
 
@@ -43,17 +38,13 @@ abbrev pub from : Uv → Uv → Float
 from p q = distance2_uv p.u p.v q.u q.v
 
 -- "First smallest squared distance wins."
-unfoldable pub nearest_copy_of : Uv → Uv → Period → Period → Uv
+unfoldable pub nearest_copy_of : Uv → Uv → Option Float → Option Float → Uv
 nearest_copy_of p q up vp =
     smallest (from p) (shifted q (first_shift up) (first_shift vp))
     (copies_along q (first_shift up) (later_shifts vp) ++ copies_over q (later_shifts up) vp)
 
-unfoldable pub copy_cause : Uv → Uv → Period → Period → ℕ
+unfoldable pub copy_cause : Uv → Uv → Option Float → Option Float → ℕ
 copy_cause p q up vp = lower_of (uv_cause p) (lower_of (uv_cause q) (lower_of (period_cause_of up) (period_cause_of vp)))
 
-abbrev pub said_copy : NearestCopy → Said Uv
-said_copy (At q) = result q
-said_copy (NoCopy r) = refused (refusal_number r)
-
-unfoldable pub nearest_copy_said : Uv → Uv → Period → Period → Said Uv
+unfoldable pub nearest_copy_said : Uv → Uv → Option Float → Option Float → Said Uv
 nearest_copy_said p q up vp = refused_or (copy_cause p q up vp) (result (nearest_copy_of p q up vp))

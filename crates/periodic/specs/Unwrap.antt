@@ -1,16 +1,11 @@
 -- Unwrapping (`get_mindiff`): of five candidates the one nearest to u0. Definitions only.
-use Rattle.std.specs.Prelude.{List, [], ◌∷◌, ℕ, Float}
+use Rattle.std.specs.Prelude.{List, [], ◌∷◌, ℕ, Option, Some, None, Float}
 use Rattle.std.specs.Float.{binary64}
 use Rattle.std.specs.Float.Ieee.{add, sub, mul, neg, lt, of_bits}
 use Rattle.floats.specs.Exact.{two}
 use Rattle.compress.specs.Records.{pick}
-use Rattle.compress.specs.Refusals.{refusal_number}
-use Rattle.compress.specs.Said.{Said, result, refused, refused_or}
+use Rattle.compress.specs.Said.{Said, result, refused_or}
 use Rattle.checks.specs.Causes.{lower_of, float_cause, period_cause}
-use Rattle.periodic.specs.declared.Period.{Period}
-use Rattle.periodic.specs.declared.Period.TheVariants.{Absent, Every}
-use Rattle.periodic.specs.declared.Unwrapped.{Unwrapped}
-use Rattle.periodic.specs.declared.Unwrapped.TheVariants.{Number, Refused}
 use Rattle.compress.specs.Choice.{zero64, smallest}
 
 abbrev pub one : Float
@@ -39,21 +34,17 @@ nearest_of u0 [] = u0
 nearest_of u0 (c ∷ cs) = smallest (away_from u0) c cs
 
 -- "With no period, u comes back as given, to the bit."
-unfoldable pub unwrapped : Float → Float → Period → Float
-unwrapped u u0 Absent = u
-unwrapped u u0 (Every p) = nearest_of u0 (candidates_of u p)
+unfoldable pub unwrapped : Float → Float → Option Float → Float
+unwrapped u u0 None = u
+unwrapped u u0 (Some p) = nearest_of u0 (candidates_of u p)
 
 -- a period is absent, or is checked
-unfoldable pub period_cause_of : Period → ℕ
-period_cause_of Absent = 0
-period_cause_of (Every p) = period_cause p
+unfoldable pub period_cause_of : Option Float → ℕ
+period_cause_of None = 0
+period_cause_of (Some p) = period_cause p
 
-unfoldable pub unwrap_cause : Float → Float → Period → ℕ
+unfoldable pub unwrap_cause : Float → Float → Option Float → ℕ
 unwrap_cause u u0 period = lower_of (float_cause u) (lower_of (float_cause u0) (period_cause_of period))
 
-abbrev pub said_unwrapped : Unwrapped → Said Float
-said_unwrapped (Number x) = result x
-said_unwrapped (Refused r) = refused (refusal_number r)
-
-unfoldable pub get_mindiff : Float → Float → Period → Said Float
+unfoldable pub get_mindiff : Float → Float → Option Float → Said Float
 get_mindiff u u0 period = refused_or (unwrap_cause u u0 period) (result (unwrapped u u0 period))

@@ -12,10 +12,9 @@ fn joined(cut: Shell) -> Shell {
     if !pipe_ends::sort(OUT, cut) {
         return pipe_shell::stopped(cut);
     }
-    let d = pipe_ends::nearest_ends(OUT, cut);
-    if !d.is_found {
+    let Some(d) = pipe_ends::nearest_ends(OUT, cut) else {
         return pipe_shell::stopped(cut);
-    }
+    };
     let seamed = pipe_seam::split_seam(OUT, cut, d);
     if !seamed.is_whole {
         return seamed;
@@ -25,10 +24,9 @@ fn joined(cut: Shell) -> Shell {
 
 // The wire divided along the vertices that the search finds.
 fn divided(joined: Shell) -> Shell {
-    let d = pipe_ends::search(OUT, joined);
-    if !d.is_found {
+    let Some(d) = pipe_ends::search(OUT, joined) else {
         return pipe_shell::stopped(joined);
-    }
+    };
     pipe_seam::split_again(OUT, joined, d)
 }
 

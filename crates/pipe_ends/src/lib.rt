@@ -2,25 +2,11 @@
 // rims, and the search for a wire that uses an edge twice. What a call answers is written.
 #![tactic(auto)]
 
-ghost use Rattle.std.specs.Prelude.{◌≡◌, false};
+ghost use Rattle.std.specs.Prelude.{◌≡◌, IfOk, OnErr};
 
+use compress::Refusal;
 use nearest::Ends;
 use pipe_shell::{Shell, writing};
-use wire_kinds::Sorted;
-
-// Two vertices, if there are any.
-#[derive(Clone, Copy)]
-pub struct Divisor {
-    pub v0: u32,
-    pub v1: u32,
-    pub is_found: bool,
-}
-
-const NOT_FOUND: Divisor = Divisor {
-    v0: 0,
-    v1: 0,
-    is_found: false,
-};
 
 // The open wires, and how many are closed.
 fn write_sorted(out: i32, first: u32, second: u32, closed: usize) {
@@ -30,25 +16,20 @@ fn write_sorted(out: i32, first: u32, second: u32, closed: usize) {
     notation::text(out, b" closed\n");
 }
 
-// The step's line where it comes to nothing.
-fn write_none(out: i32) {
-    notation::text(out, b" none\n");
-}
-
-// Whether just the two rims are open, written.
-fn are_rims_open(out: i32, answer: Sorted, first: u32, second: u32) -> bool {
+// The result that a call answers; "none" and a refusal are written.
+fn result_of<T>(out: i32, answer: Result<Option<T>, Refusal>) -> Option<T>
+    ensures told { IfOk answer (λ a. result ≡ a) }
+    ensures refused { OnErr answer (result ≡ None) }
+{
     match answer {
-        Sorted::Two(n) => {
-            write_sorted(out, first, second, n);
-            (first == 0) & (second == 1)
+        Ok(Some(found)) => Some(found),
+        Ok(None) => {
+            notation::text(out, b" none\n");
+            None
         }
-        Sorted::Nothing => {
-            write_none(out);
-            false
-        }
-        Sorted::Unsorted(r) => {
+        Err(r) => {
             writing::write_refusal(out, r);
-            false
+            None
         }
     }
 }
@@ -60,44 +41,27 @@ pub fn sort(out: i32, s: Shell) -> bool {
     let mut opens = [0u32; 2];
     let mut closed = [0u32; 2];
     let answer = wire_kinds::sort_wires(&ends, s.wires.count, &mut opens, &mut closed);
-    are_rims_open(out, answer, opens[0], opens[1])
-}
-
-// The vertices that a call answers.
-fn write_vertices(out: i32, v0: u32, v1: u32) {
-    notation::numbered(out, b" vertices ", v0);
-    notation::numbered(out, b" and ", v1);
-    notation::text(out, b"\n");
+    let Some(count) = result_of(out, answer) else {
+        return false;
+    };
+    write_sorted(out, opens[0], opens[1], count);
+    opens == [0, 1]
 }
 
 // The two vertices that a call answers, written.
-pub fn divisor_of(out: i32, answer: Ends) -> Divisor
-    ensures { result.is_found ≡ false → (result.v0 ≡ 0) × (result.v1 ≡ 0) }
+pub fn divisor_of(out: i32, answer: Result<Option<Ends>, Refusal>) -> Option<Ends>
+    ensures told { IfOk answer (λ a. result ≡ a) }
+    ensures refused { OnErr answer (result ≡ None) }
 {
-    match answer {
-        Ends::Between(v0, v1) => {
-            write_vertices(out, v0, v1);
-            Divisor {
-                v0,
-                v1,
-                is_found: true,
-            }
-        }
-        Ends::NoEnds => {
-            write_none(out);
-            NOT_FOUND
-        }
-        Ends::EndsRefused(r) => {
-            writing::write_refusal(out, r);
-            NOT_FOUND
-        }
-    }
+    let ends = result_of(out, answer)?;
+    notation::numbered(out, b" vertices ", ends.v0);
+    notation::numbered(out, b" and ", ends.v1);
+    notation::text(out, b"\n");
+    Some(ends)
 }
 
 // The nearest ends of the two rims, from vertex 0 on, where the turn begins.
-pub fn nearest_ends(out: i32, s: Shell) -> Divisor
-    ensures { result.is_found ≡ false → (result.v0 ≡ 0) × (result.v1 ≡ 0) }
-{
+pub fn nearest_ends(out: i32, s: Shell) -> Option<Ends> {
     notation::text(out, b"3. nearest ends:");
     let vertex_numbers = s.vertices.numbers;
     let vertex_floats = s.vertices.floats;
@@ -124,9 +88,7 @@ pub fn nearest_ends(out: i32, s: Shell) -> Divisor
 }
 
 // The two vertices that divide the wire that uses the seam twice.
-pub fn search(out: i32, s: Shell) -> Divisor
-    ensures { result.is_found ≡ false → (result.v0 ≡ 0) × (result.v1 ≡ 0) }
-{
+pub fn search(out: i32, s: Shell) -> Option<Ends> {
     notation::text(out, b"6. non-simple search:");
     let vertex_numbers = s.vertices.numbers;
     let vertex_floats = s.vertices.floats;

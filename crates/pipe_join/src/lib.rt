@@ -3,25 +3,25 @@
 
 ghost use Rattle.std.specs.Prelude.{◌≡◌};
 
-use joined::Join;
-use pipe_ends::Divisor;
+use compress::Refusal;
+use nearest::Ends;
 use pipe_shell::{Shell, Wires, writing};
 
 // The shell after the join.
-fn after_join(out: i32, answer: Join, s: Shell) -> Shell
+fn after_join(out: i32, answer: Result<Option<usize>, Refusal>, s: Shell) -> Shell
     ensures { (result.vertices ≡ s.vertices) × (result.edges ≡ s.edges) }
 {
     match answer {
-        Join::Joined(_) => {
+        Ok(Some(_)) => {
             notation::text(out, b" the rims and the seam are one wire\n");
             writing::write_wires(out, s.wires);
             s
         }
-        Join::NoJoin => {
+        Ok(None) => {
             notation::text(out, b" none\n");
             pipe_shell::stopped(s)
         }
-        Join::JoinRefused(r) => {
+        Err(r) => {
             writing::write_refusal(out, r);
             pipe_shell::stopped(s)
         }
@@ -36,7 +36,7 @@ fn join_open(
     n: usize,
     second: &[u32],
     m: usize,
-    d: Divisor,
+    d: Ends,
 ) -> Shell
     ensures { (result.vertices ≡ s.vertices) × (result.edges ≡ s.edges) }
 {
@@ -65,7 +65,7 @@ fn join_open(
 }
 
 // Joins the two rims with the seam's wire, which the shell has now.
-pub fn join_rims(out: i32, rims: Wires, s: Shell, d: Divisor) -> Shell
+pub fn join_rims(out: i32, rims: Wires, s: Shell, d: Ends) -> Shell
     ensures { (result.vertices ≡ s.vertices) × (result.edges ≡ s.edges) }
 {
     notation::text(out, b"5. join:");

@@ -4,26 +4,22 @@
 
 ghost use Rattle.std.specs.Prelude.{◌≡◌};
 
-use cutting::Split;
+use compress::{Counts, Refusal};
 use pipe_shell::{Shell, writing};
 
 // The shell after the pass, with the points of the new vertices evaluated.
-fn after_pass(out: i32, answer: Split, s: Shell) -> Shell
+fn after_pass(out: i32, answer: Result<Counts, Refusal>, s: Shell) -> Shell
     ensures { result.wires ≡ s.wires }
 {
     match answer {
-        Split::Refused(r) => {
+        Err(r) => {
             writing::write_refusal(out, r);
             pipe_shell::stopped(s)
         }
-        Split::Done {
-            vertices,
-            edges,
-            uses: _,
-        } => {
+        Ok(n) => {
             notation::text(out, b" the rims are cut, the new vertices evaluated\n");
-            let table = pipe_shell::counted(s.edges, edges);
-            let left = pipe_shell::shell_of(pipe_shell::given(vertices), table, s.wires);
+            let table = pipe_shell::counted(s.edges, n.edges);
+            let left = pipe_shell::shell_of(pipe_shell::given(n.vertices), table, s.wires);
             writing::write_shell(out, left, 0);
             left
         }

@@ -4,7 +4,7 @@ use compress::Refusal;
 
 // The step's line where it is turned away.
 pub fn write_refusal(out: i32, r: Refusal) {
-    notation::numbered(out, b" refused, number ", compress::refusal_number(r));
+    notation::numbered(out, b" refused, number ", u32::from(r));
     notation::text(out, b"\n");
 }
 

@@ -1,12 +1,11 @@
--- Tables without a cause, 7 included, and how large their causes are.
+-- Tables without a cause, 7 included.
 -- Assumes nothing.
 use mathlib.Core.Path.{◌≡◌}
 use mathlib.Core.List.{List}
-use Prim.Native.Nat.{ℕ, ◌≤◌}
+use Prim.Native.Nat.{ℕ}
 use lib.Ieee.{Float}
 use Rattle.checks.specs.Causes.{vertices_cause, edges_cause, pending_cause}
 use Rattle.checks.proofs.Lowest.{lower_none}
-use Rattle.checks.proofs.Small.{lower_small, vertices_small, edges_small, pending_small}
 use Rattle.points.specs.Tables.{tables_cause}
 
 pub record TablesAccepted (vn : List ℕ) (vf : List Float) (en : List ℕ) (ef : List Float) (v e : ℕ) : Type 0 where
@@ -20,8 +19,3 @@ tables_accepted vn vf en ef v e q =
     let a = lower_none (vertices_cause vn vf v) _ q in
     let b = lower_none (edges_cause v en ef e) (pending_cause vn v) a.1 in
     record { vertices = a.0; edges = b.0; given = b.1 }
-
-pub tables_small : (vn : List ℕ) (vf : List Float) (en : List ℕ) (ef : List Float) (v e : ℕ) → tables_cause vn vf en ef v e ≤ 15
-unfolding tables_cause
-tables_small vn vf en ef v e =
-    lower_small (vertices_cause vn vf v) _ (vertices_small vn vf v) (lower_small (edges_cause v en ef e) _ (edges_small v en ef e) (pending_small vn v))

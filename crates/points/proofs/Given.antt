@@ -1,19 +1,23 @@
 -- Given vertices told in one pass: the test holds just where no row has a cause, 7 included.
 -- Assumes nothing.
-use mathlib.Core.Path.{◌≡◌, refl, sym, ◌∙◌}
-use mathlib.Core.Bool.{Bool, true, false, not}
+use mathlib.Core.Path.{◌≡◌, ◌∙◌}
+use mathlib.Core.Bool.{Bool, true, false}
 use mathlib.Core.List.{List}
 use Prim.Native.Nat.{ℕ, ◌+◌, ◌*◌, ◌≤◌, ◌<◌}
 use native.Mathlib.Omega.{arith}
 use borrow.Author.Tests.{eqb-false, ltb-false}
 use lib.Dec.{eqb, ltb}
 use lib.ListN.{length, get_or}
+use Rattle.std.specs.Bool.{MatchBool}
+use Rattle.std.specs.List.{range_with_len, AllWithin, HoldsAt}
+use Rattle.std.proofs.lemmas.List.FromFn.{length-range_with_len, get_or-range_with_len}
+use mathlib.Core.Logic.{◌≢◌}
 use lib.Ieee.{Float, nan}
 use Rattle.compress.specs.Rows.{vertex_of}
 use Rattle.checks.specs.Causes.{lower_of, lowest_of, kind_cause, point_cause, vertex_cause, vertex_row_cause, pending_row_cause, vertices_cause, pending_cause}
 use Rattle.checks.proofs.Accepted.{not_when, vertices_accepted}
 use Rattle.checks.proofs.Lowest.{lower_first, lower_last, lower_none, lowest_none}
-use Rattle.checks.proofs.Sound.{no, lower_zero}
+use Rattle.checks.proofs.Sound.{lower_zero, lowest_all}
 use Rattle.tables.proofs.Told.{tells_no, tells_yes}
 
 module _ (ns : List ℕ) (fs : List Float) (i : ℕ) where
@@ -33,21 +37,23 @@ module _ (ns : List ℕ) (fs : List Float) (i : ℕ) where
   unfolding vertex_row_cause vertex_cause vertex_of
   row_cause k = rw k (lower_last _ ∙ lower_first _ ∙ lower_first _)
 
--- one row with a cause
-off : (b : Bool) → not b ≡ true → b ≡ false
-off true e = no e
-off false e = refl
-
-pub row_no : (f g : ℕ → ℕ) (n i : ℕ) (b : Bool) → i < n → b ≡ eqb (lower_of (f i) (g i)) 0 → not b ≡ true
-    → false ≡ eqb (lower_of (lowest_of f n) (lowest_of g n)) 0
-row_no f g n i b lt q e =
+-- What `all` tells of n rows with two causes each: a row that passes has neither, and one that does not has one.
+pub rows_told : (f g : ℕ → ℕ) (n : ℕ) (r : Bool)
+    → MatchBool r (AllWithin (λ i. lower_of (f i) (g i) ≡ 0) (range_with_len 0 n) 0 (length (range_with_len 0 n)))
+    ((k : ℕ) × (k < length (range_with_len 0 n)) × HoldsAt (λ i. lower_of (f i) (g i) ≢ 0) (range_with_len 0 n) k)
+    → r ≡ eqb (lower_of (lowest_of f n) (lowest_of g n)) 0
+rows_told f g n true h =
+    let each : (i : ℕ) → i < n → (f i ≡ 0) × (g i ≡ 0) = λ i p.
+    let q : get_or (range_with_len 0 n) i 0 ≡ i = get_or-range_with_len 0 n i 0 p ∙ omega arith in
+    lower_none (f i) (g i) (rw q at (h i 0 (omega arith) (rw (length-range_with_len 0 n) p))) in
+    tells_yes (lower_of (lowest_of f n) (lowest_of g n))
+    (lower_zero (lowest_of f n) (lowest_of g n) (lowest_all f n (λ i p. (each i p).0)) (lowest_all g n (λ i p. (each i p).1)))
+rows_told f g n false (k, lt, h) =
+    let p : k < n = rw (length-range_with_len 0 n) at lt in
+    let q : get_or (range_with_len 0 n) k 0 ≡ k = get_or-range_with_len 0 n k 0 p ∙ omega arith in
     tells_no (lower_of (lowest_of f n) (lowest_of g n)) (λ z.
     let a = lower_none (lowest_of f n) (lowest_of g n) z in
-    eqb-false (lower_of (f i) (g i)) 0 (sym q ∙ off b e) (lower_zero (f i) (g i) (lowest_none f n i a.0 lt) (lowest_none g n i a.1 lt)))
-
--- no row with one
-pub rows_none : (f g : ℕ → ℕ) (n i : ℕ) → i ≡ n → lowest_of f i ≡ 0 → lowest_of g i ≡ 0 → true ≡ eqb (lower_of (lowest_of f n) (lowest_of g n)) 0
-rows_none f g n i q a b = tells_yes (lower_of (lowest_of f n) (lowest_of g n)) (rw (← q) (lower_zero (lowest_of f i) (lowest_of g i) a b))
+    (rw q at (h 0)) (lower_zero (f k) (g k) (lowest_none f n k a.0 p) (lowest_none g n k a.1 p)))
 
 -- a table that does not lie in its slices has the cause 1
 pub not_lying : (ns : List ℕ) (fs : List Float) (n : ℕ) → ((n ≤ 4096) × (n * 3 ≤ length ns) × (n * 7 ≤ length fs) → ⊥)

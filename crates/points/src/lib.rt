@@ -2,8 +2,11 @@
 #![tactic(auto)]
 
 ghost use Rattle.std.specs.Prelude.{◌≡◌, ◌+◌, ◌*◌, ◌≤◌, eqb, length};
+ghost use Rattle.compress.specs.Refusals.{cause_of};
 ghost use Rattle.checks.specs.Causes.{lower_of, lowest_of, vertex_row_cause, vertices_cause, pending_row_cause, pending_cause};
 ghost use Rattle.points.specs.Tables.{tables_cause};
+
+use compress::{Checked, Refusal};
 
 // Whether the vertex of row i is given, and without a cause.
 fn is_given_sound(numbers: &[u32], floats: &[f64], i: usize) -> bool
@@ -22,12 +25,7 @@ fn are_given_sound(numbers: &[u32], floats: &[f64], count: usize) -> bool
     requires { (count * 3 ≤ length numbers.now) × (count * 7 ≤ length floats.now) }
     ensures { result ≡ eqb (lower_of (lowest_of (vertex_row_cause numbers.now floats.now) count) (lowest_of (pending_row_cause numbers.now) count)) 0 }
 {
-    for i in 0..count {
-        if !is_given_sound(numbers, floats, i) {
-            return false;
-        }
-    }
-    true
+    (0..count).all(|i| is_given_sound(numbers, floats, i))
 }
 
 // Whether a table has given vertices only, and no cause, 7 included, told in one pass. After a no `vertices` and `pending` tell the causes.
@@ -46,27 +44,24 @@ fn are_points(numbers: &[u32], floats: &[f64], count: usize) -> bool
     are_given_sound(numbers, floats, count)
 }
 
-fn pending_rows(numbers: &[u32], count: usize) -> u32
+fn pending_rows(numbers: &[u32], count: usize) -> Checked
     requires { count * 3 ≤ length numbers.now }
-    ensures { result ≡ lowest_of (pending_row_cause numbers.now) count }
+    ensures { cause_of result ≡ lowest_of (pending_row_cause numbers.now) count }
 {
-    let mut least: u32 = 0;
-    for i in 0..count {
-        let a = i * 3;
-        least = checks::lower(least, checks::cause_when(numbers[a] == 1, 7));
-    }
-    least
+    checks::lowest_cause(count, |i| {
+        checks::cause_when(numbers[i * 3] == 1, Refusal::PendingVertex)
+    })
 }
 
 // Cause 7: a table in which a vertex is pending.
-fn pending(numbers: &[u32], count: usize) -> u32
-    ensures { result ≡ pending_cause numbers.now count }
+fn pending(numbers: &[u32], count: usize) -> Checked
+    ensures { cause_of result ≡ pending_cause numbers.now count }
 {
     if count > 4096 {
-        return 0;
+        return Ok(());
     }
     if numbers.len() < count * 3 {
-        return 0;
+        return Ok(());
     }
     pending_rows(numbers, count)
 }
@@ -79,8 +74,8 @@ pub fn tables_cause(
     edge_floats: &[f64],
     vertices: usize,
     edges: usize,
-) -> u32
-    ensures { result ≡ tables_cause vertex_numbers.now vertex_floats.now edge_numbers.now edge_floats.now vertices edges }
+) -> Checked
+    ensures { cause_of result ≡ tables_cause vertex_numbers.now vertex_floats.now edge_numbers.now edge_floats.now vertices edges }
 {
     let e = tables::edges(vertices, edge_numbers, edge_floats, edges);
     if are_points(vertex_numbers, vertex_floats, vertices) {

@@ -7,7 +7,7 @@ ghost use Rattle.stored_cells.specs.Fits.{FloatsFit};
 ghost use Rattle.stored_records.specs.Fits.{ShellFits};
 
 use answers::{Answer, ShellLeft};
-use cutting::Split;
+use compress::Refusal;
 use records::{Counts, Shell};
 use stored::Place;
 use stored_cells::Floats;
@@ -21,14 +21,10 @@ struct Asked {
     place: Place,
 }
 
-fn answer_of(s: Split) -> Answer {
+fn answer_of(s: Result<compress::Counts, Refusal>) -> Answer {
     match s {
-        Split::Done {
-            vertices,
-            edges,
-            uses,
-        } => answers::told(vertices as u64, edges as u64, uses as u64),
-        Split::Refused(r) => answers::refused(r),
+        Ok(n) => answers::told(n.vertices as u64, n.edges as u64, n.uses as u64),
+        Err(r) => answers::refused(r),
     }
 }
 

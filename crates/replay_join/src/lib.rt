@@ -6,7 +6,7 @@ ghost use Rattle.stored.specs.Compared.{Remembers};
 ghost use Rattle.stored_records.specs.Fits.{PairFits, TableFits};
 
 use answers::{Answer, Left};
-use joined::Join;
+use compress::Refusal;
 use records::{Counts, Pair, Table};
 use stored::Place;
 use stored_records::{answers, tables as records};
@@ -22,11 +22,11 @@ struct Ends {
     place: Place,
 }
 
-fn answer_of(j: Join) -> Answer {
+fn answer_of(j: Result<Option<usize>, Refusal>) -> Answer {
     match j {
-        Join::Joined(n) => answers::told(n as u64, 0, 0),
-        Join::NoJoin => answers::none(),
-        Join::JoinRefused(r) => answers::refused(r),
+        Ok(Some(n)) => answers::told(n as u64, 0, 0),
+        Ok(None) => answers::none(),
+        Err(r) => answers::refused(r),
     }
 }
 

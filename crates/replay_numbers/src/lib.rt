@@ -6,13 +6,8 @@ pub mod sorting;
 ghost use Rattle.std.specs.Prelude.{◌≡◌};
 ghost use Rattle.stored.specs.Compared.{Remembers};
 
-use compress::Uv;
-use periodic::{NearestCopy, Period, Unwrapped};
+use compress::{Refusal, Uv};
 use stored::Place;
-use wire_kinds::{BoundaryType, WireKind};
-
-// The number of the refusal that a period gets whose kind is neither 0 nor 1. No call can be handed such a period.
-const MALFORMED: u32 = 1;
 
 // A point from the list, and the place past it.
 #[derive(Clone, Copy)]
@@ -21,27 +16,12 @@ struct Point {
     place: Place,
 }
 
-// A period from the list, whether its kind is known, and the place past it.
+// A period from the list, with the refusal that it gets where its kind is neither 0 nor 1, and the place past it.
+// No call can be handed such a period.
 #[derive(Clone, Copy)]
 struct Given {
-    period: Period,
-    is_known: bool,
+    period: Result<Option<f64>, Refusal>,
     place: Place,
-}
-
-// The answer as the list has it: 0 with a point, or the number of the refusal with zeros. A number alone stands in u.
-#[derive(Clone, Copy)]
-struct Moved {
-    number: u64,
-    u: f64,
-    v: f64,
-}
-
-// The answer as the list has it: 0 with the kind of wire, or the number of the refusal with 0.
-#[derive(Clone, Copy)]
-struct Kind {
-    number: u64,
-    kind: u64,
 }
 
 // ---- what a call was handed
@@ -66,65 +46,31 @@ fn read_period(buf: &[u8], p: Place) -> Given
     let kind = stored::next(buf, p);
     let number = stored_cells::next_float(buf, kind.place);
     let place = number.place;
-    let period = if kind.bits == 1 {
-        Period::Every(number.value)
-    } else {
-        Period::Absent
+    let period = match kind.bits {
+        0 => Ok(None),
+        1 => Ok(Some(number.value)),
+        _ => Err(Refusal::Malformed),
     };
-    Given {
-        period,
-        is_known: kind.bits <= 1,
-        place,
+    Given { period, place }
+}
+
+// ---- answers as the list has them: a number, 0 or that of the refusal, and then the result, or zeros
+
+fn number_of<A: Copy>(answer: Result<A, Refusal>) -> u64 {
+    match answer {
+        Ok(_) => 0,
+        Err(r) => u64::from(u32::from(r)),
     }
 }
 
 // ---- get_mindiff and nearest_copy
 
-fn not_moved(number: u32) -> Moved {
-    Moved {
-        number: number as u64,
-        u: 0.0,
-        v: 0.0,
-    }
+fn unwrap(u: f64, u0: f64, g: Given) -> Result<f64, Refusal> {
+    periodic::get_mindiff(u, u0, g.period?)
 }
 
-fn unwrapped(r: Unwrapped) -> Moved {
-    match r {
-        Unwrapped::Number(u) => Moved {
-            number: 0,
-            u,
-            v: 0.0,
-        },
-        Unwrapped::Refused(r) => not_moved(compress::refusal_number(r)),
-    }
-}
-
-fn copied(r: NearestCopy) -> Moved {
-    match r {
-        NearestCopy::At(q) => Moved {
-            number: 0,
-            u: q.u,
-            v: q.v,
-        },
-        NearestCopy::NoCopy(r) => not_moved(compress::refusal_number(r)),
-    }
-}
-
-fn unwrap(u: f64, u0: f64, g: Given) -> Moved {
-    let period = g.period;
-    if g.is_known {
-        return unwrapped(periodic::get_mindiff(u, u0, period));
-    }
-    not_moved(MALFORMED)
-}
-
-fn copy(p: Uv, q: Uv, gu: Given, gv: Given) -> Moved {
-    let up = gu.period;
-    let vp = gv.period;
-    if gu.is_known & gv.is_known {
-        return copied(periodic::nearest_copy(p, q, up, vp));
-    }
-    not_moved(MALFORMED)
+fn copy(p: Uv, q: Uv, gu: Given, gv: Given) -> Result<Uv, Refusal> {
+    periodic::nearest_copy(p, q, gu.period?, gv.period?)
 }
 
 // Replays get_mindiff. The place comes back past the record.
@@ -134,18 +80,9 @@ pub fn replay_unwrap(buf: &[u8], p: Place) -> Place
     let u = stored_cells::next_float(buf, p);
     let u0 = stored_cells::next_float(buf, u.place);
     let g = read_period(buf, u0.place);
-    let m = unwrap(u.value, u0.value, g);
-    let told = stored::compare(buf, g.place, m.number);
-    stored_cells::compare_float(buf, told, m.u)
-}
-
-// Compares the answer of nearest_copy with the list.
-fn compare_copy(buf: &[u8], p: Place, m: Moved) -> Place
-    ensures { Remembers p result }
-{
-    let told = stored::compare(buf, p, m.number);
-    let u = stored_cells::compare_float(buf, told, m.u);
-    stored_cells::compare_float(buf, u, m.v)
+    let answer = unwrap(u.value, u0.value, g);
+    let told = stored::compare(buf, g.place, number_of(answer));
+    stored_cells::compare_float(buf, told, answer.unwrap_or(0.0))
 }
 
 // Replays nearest_copy. The place comes back past the record.
@@ -156,35 +93,14 @@ pub fn replay_copy(buf: &[u8], p: Place) -> Place
     let b = read_point(buf, a.place);
     let gu = read_period(buf, b.place);
     let gv = read_period(buf, gu.place);
-    compare_copy(buf, gv.place, copy(a.uv, b.uv, gu, gv))
+    let answer = copy(a.uv, b.uv, gu, gv);
+    let q = answer.unwrap_or(Uv { u: 0.0, v: 0.0 });
+    let told = stored::compare(buf, gv.place, number_of(answer));
+    let u = stored_cells::compare_float(buf, told, q.u);
+    stored_cells::compare_float(buf, u, q.v)
 }
 
 // ---- boundary_type
-
-fn kind_number(t: BoundaryType) -> u64 {
-    match t {
-        BoundaryType::Positive => 0,
-        BoundaryType::Negative => 1,
-        BoundaryType::NotClosed => 2,
-    }
-}
-
-fn no_kind(number: u32) -> Kind {
-    Kind {
-        number: number as u64,
-        kind: 0,
-    }
-}
-
-fn kind_of(r: WireKind) -> Kind {
-    match r {
-        WireKind::Is(t) => Kind {
-            number: 0,
-            kind: kind_number(t),
-        },
-        WireKind::NoKind(r) => no_kind(compress::refusal_number(r)),
-    }
-}
 
 // Replays boundary_type. The place comes back past the record.
 pub fn replay_kind(buf: &[u8], p: Place) -> Place
@@ -193,7 +109,8 @@ pub fn replay_kind(buf: &[u8], p: Place) -> Place
     let a = read_point(buf, p);
     let b = read_point(buf, a.place);
     let area = stored_cells::next_float(buf, b.place);
-    let k = kind_of(wire_kinds::boundary_type(a.uv, b.uv, area.value));
-    let told = stored::compare(buf, area.place, k.number);
-    stored::compare(buf, told, k.kind)
+    let answer = wire_kinds::boundary_type(a.uv, b.uv, area.value);
+    let kind = answer.map_or(0, u32::from);
+    let told = stored::compare(buf, area.place, number_of(answer));
+    stored::compare(buf, told, u64::from(kind))
 }

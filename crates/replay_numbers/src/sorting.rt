@@ -4,17 +4,17 @@ ghost use Rattle.stored_cells.specs.Fits.{FloatsFit};
 ghost use Rattle.stored_records.specs.Fits.{PairFits};
 
 use answers::{Answer, Left};
+use compress::Refusal;
 use stored::Place;
 use stored_cells::Floats;
 use stored_records::{answers, tables};
 use tables::Pair;
-use wire_kinds::Sorted;
 
-fn answer_of(s: Sorted) -> Answer {
-    match s {
-        Sorted::Two(k) => answers::told(k as u64, 0, 0),
-        Sorted::Nothing => answers::none(),
-        Sorted::Unsorted(r) => answers::refused(r),
+fn answer_of(sorted: Result<Option<usize>, Refusal>) -> Answer {
+    match sorted {
+        Ok(Some(k)) => answers::told(k as u64, 0, 0),
+        Ok(None) => answers::none(),
+        Err(r) => answers::refused(r),
     }
 }
 

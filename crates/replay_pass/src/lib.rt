@@ -6,19 +6,15 @@ ghost use Rattle.stored.specs.Compared.{Remembers};
 ghost use Rattle.stored_records.specs.Fits.{PairFits, ShellFits, TableFits};
 
 use answers::{Answer, ShellLeft};
-use cutting::Split;
+use compress::Refusal;
 use records::{Counts, Pair, PairRead, Shell, ShellRead, Table, TableRead};
 use stored::Place;
 use stored_records::{answers, tables as records};
 
-fn answer_of(s: Split) -> Answer {
+fn answer_of(s: Result<compress::Counts, Refusal>) -> Answer {
     match s {
-        Split::Done {
-            vertices,
-            edges,
-            uses,
-        } => answers::told(vertices as u64, edges as u64, uses as u64),
-        Split::Refused(r) => answers::refused(r),
+        Ok(n) => answers::told(n.vertices as u64, n.edges as u64, n.uses as u64),
+        Err(r) => answers::refused(r),
     }
 }
 

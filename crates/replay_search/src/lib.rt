@@ -6,6 +6,7 @@ ghost use Rattle.stored.specs.Compared.{Remembers};
 ghost use Rattle.stored_records.specs.Fits.{ShellFits};
 
 use answers::Answer;
+use compress::Refusal;
 use nearest::Ends;
 use records::{Counts, Shell};
 use stored::Place;
@@ -20,11 +21,11 @@ struct Start {
     place: Place,
 }
 
-fn answer_of(e: Ends) -> Answer {
-    match e {
-        Ends::Between(v0, v1) => answers::told(v0 as u64, v1 as u64, 0),
-        Ends::NoEnds => answers::none(),
-        Ends::EndsRefused(r) => answers::refused(r),
+fn answer_of(found: Result<Option<Ends>, Refusal>) -> Answer {
+    match found {
+        Ok(Some(ends)) => answers::told(ends.v0 as u64, ends.v1 as u64, 0),
+        Ok(None) => answers::none(),
+        Err(r) => answers::refused(r),
     }
 }
 

@@ -6,6 +6,7 @@ ghost use Rattle.stored.specs.Compared.{Remembers};
 ghost use Rattle.stored_records.specs.Fits.{PairFits, TableFits};
 
 use answers::Answer;
+use compress::Refusal;
 use records::{Counts, Pair, Table};
 use split::Boundaries;
 use stored::Place;
@@ -30,12 +31,10 @@ struct Left {
     wires: Pair,
 }
 
-fn answer_of(b: Boundaries) -> Answer {
+fn answer_of(b: Result<Boundaries, Refusal>) -> Answer {
     match b {
-        Boundaries::Split { wires, uses, edges } => {
-            answers::told(wires as u64, uses as u64, edges as u64)
-        }
-        Boundaries::SplitRefused(r) => answers::refused(r),
+        Ok(made) => answers::told(made.wires as u64, made.uses as u64, made.edges as u64),
+        Err(r) => answers::refused(r),
     }
 }
 
@@ -61,37 +60,22 @@ fn divided(c: Counts, a: Asked, e: Table, f: Pair, r: Pair, d: Table, w: Pair) -
     requires { TableFits e × PairFits f × PairFits r × TableFits d × PairFits w }
     ensures { TableFits result.edges × PairFits result.wires }
 {
+    // The cells that the call writes stand in locals: of the fields of a copy the check does not know that they keep their length.
     let mut edge_numbers = e.numbers.cells;
     let mut edge_floats = e.floats.cells;
-    let face_uses = f.first.cells;
-    let face_lengths = f.second.cells;
-    let rebuilt_uses = r.first.cells;
-    let rebuilt_lengths = r.second.cells;
-    let divisor = d.numbers.cells;
-    let points = d.floats.cells;
     let mut uses = w.first.cells;
     let mut lengths = w.second.cells;
-    let e1 = e.numbers.count;
-    let e2 = e.floats.count;
-    let e3 = f.first.count;
-    let e4 = f.second.count;
-    let e5 = r.first.count;
-    let e6 = r.second.count;
-    let e7 = d.numbers.count;
-    let e8 = d.floats.count;
-    let e9 = w.first.count;
-    let e10 = w.second.count;
     let answer = split::split_boundaries_by_divisor(
-        &mut edge_numbers[..e1],
-        &mut edge_floats[..e2],
-        &face_uses[..e3],
-        &face_lengths[..e4],
-        &rebuilt_uses[..e5],
-        &rebuilt_lengths[..e6],
-        &divisor[..e7],
-        &points[..e8],
-        &mut uses[..e9],
-        &mut lengths[..e10],
+        &mut edge_numbers[..e.numbers.count],
+        &mut edge_floats[..e.floats.count],
+        &f.first.cells[..f.first.count],
+        &f.second.cells[..f.second.count],
+        &r.first.cells[..r.first.count],
+        &r.second.cells[..r.second.count],
+        &d.numbers.cells[..d.numbers.count],
+        &d.floats.cells[..d.floats.count],
+        &mut uses[..w.first.count],
+        &mut lengths[..w.second.count],
         c.vertices,
         c.edges,
         a.face,
@@ -99,12 +83,10 @@ fn divided(c: Counts, a: Asked, e: Table, f: Pair, r: Pair, d: Table, w: Pair) -
         a.divisor,
         a.surface,
     );
-    let edges = records::table_left(e, edge_numbers, edge_floats);
-    let wires = records::pair_left(w, uses, lengths);
     Left {
         answer: answer_of(answer),
-        edges,
-        wires,
+        edges: records::table_left(e, edge_numbers, edge_floats),
+        wires: records::pair_left(w, uses, lengths),
     }
 }
 

@@ -4,12 +4,7 @@ use Rattle.std.specs.Float.{binary64, nan}
 use Rattle.std.specs.Float.Ieee.{of_bits}
 use Rattle.compress.specs.declared.Curve.TheVariants.{Seam}
 use Rattle.compress.specs.declared.Edge.{Edge}
-use Rattle.compress.specs.declared.Uv.{Uv}
-
--- a vertex on the divisor, "with its uv point"
-pub record Stop : Type 0 where
-  pub vertex : ℕ
-  pub point : Uv
+use Rattle.seams.specs.declared.Stop.{Stop}
 
 abbrev pub stop_at : List ℕ → List Float → ℕ → Stop
 stop_at ds fs i = record { vertex = get_or ds i 0; point = record { u = get_or fs (i * 2) nan; v = get_or fs (i * 2 + 1) nan } }

@@ -20,8 +20,9 @@ use Rattle.lists.proofs.Counts.{bit, count_cons, count_append}
 use Rattle.walk.proofs.Storing.{uses_joined, length_lengths}
 use Rattle.walk.proofs.Tabled.{table_theorem, table_balanced}
 use Rattle.marks.specs.Marks.{new_uses}
+use Rattle.split.specs.declared.Boundaries.{Boundaries}
 use Rattle.split.specs.Split.{seams, edges_after, marked_in, uses_to_walk, split_wires}
-use Rattle.split.specs.Contract.{SplitCounts, given_in, SplitOutcome, split_stored, after_walk, cause_or_walk, split_outcome}
+use Rattle.split.specs.Contract.{given_in, SplitOutcome, split_stored, after_walk, cause_or_walk, split_outcome}
 use Rattle.split_causes.specs.Causes.{LentSplit, split_cause}
 use Rattle.split.specs.Demand.{front_in, back_in, fronts_at, backs_at, counted, KeepsUses}
 use Rattle.split_causes.proofs.Accepted.{split_checked}
@@ -121,7 +122,7 @@ module _ (l : LentSplit) where
         no_dead_end = λ q even p. omega arith;
       }
     where
-      never : {c : SplitCounts} → ◌≡◌ {A = Said SplitCounts} (refused (suc n)) (result c) → ⊥
+      never : {c : Boundaries} → ◌≡◌ {A = Said Boundaries} (refused (suc n)) (result c) → ⊥
       never p = let z : ◌≡◌ {A = ℕ} 0 1 = cc in omega arith
 
   module _ (none : split_cause l ≡ 0) where
@@ -150,10 +151,10 @@ module _ (l : LentSplit) where
           no_dead_end = λ q even p. not_eleven even (e ∙ ap walk.refused (same p));
         }
       where
-        never : {c : SplitCounts} → ◌≡◌ {A = Said SplitCounts} (refused n) (result c) → ⊥
+        never : {c : Boundaries} → ◌≡◌ {A = Said Boundaries} (refused n) (result c) → ⊥
         never p = let z : ◌≡◌ {A = ℕ} 0 1 = cc in omega arith
 
-        same : ◌≡◌ {A = Said SplitCounts} (refused n) (refused 11) → n ≡ 11
+        same : ◌≡◌ {A = Said Boundaries} (refused n) (refused 11) → n ≡ 11
         same p = cc
 
         no_wires : (ws : List (List ℕ)) → split_wires (given_in l) ≡ wires ws → ⊥
@@ -169,20 +170,20 @@ module _ (l : LentSplit) where
           each = λ c p u. rw (sym (counts c p), wires_stored ws l.buffers.us l.buffers.ls) (told u);
           all = λ c p. rw (sym (counts c p), wires_stored ws l.buffers.us l.buffers.ls) (sym (take-append_seam (uses_of ws) _));
           wire = λ c p i h.
-              rw (sym (counts c p), wires_stored ws l.buffers.us l.buffers.ls) (claimed.wire ws e i (subst (λ (d : SplitCounts). i < d.wires) (sym (counts c p)) h));
+              rw (sym (counts c p), wires_stored ws l.buffers.us l.buffers.ls) (claimed.wire ws e i (subst (λ (d : Boundaries). i < d.wires) (sym (counts c p)) h));
           no_dead_end = λ q even. other;
         }
       where
-        said : SplitCounts
+        said : Boundaries
         said = record { wires = length ws; uses = length (uses_of ws); edges = length (edges_after (given_in l)) }
 
-        counts : (c : SplitCounts) → ◌≡◌ {A = Said SplitCounts} (result said) (result c) → said ≡ c
+        counts : (c : Boundaries) → ◌≡◌ {A = Said Boundaries} (result said) (result c) → said ≡ c
         counts c p = cc
 
         never : (n : ℕ) → split_wires (given_in l) ≡ walk.refused n → ⊥
         never n p = let z : ◌≡◌ {A = ℕ} 0 1 = cc in omega arith
 
-        other : ◌≡◌ {A = Said SplitCounts} (result said) (refused 11) → ⊥
+        other : ◌≡◌ {A = Said Boundaries} (result said) (refused 11) → ⊥
         other p = let z : ◌≡◌ {A = ℕ} 0 1 = cc in omega arith
 
         told : (u : ℕ) → count (eqb u) (uses_of ws) ≡ counted l u

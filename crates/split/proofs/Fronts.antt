@@ -17,7 +17,8 @@ use Rattle.compress.proofs.Layouts.{length_rows, get_d_rows}
 use Rattle.checks.proofs.Accepted.{edge_ends}
 use Rattle.lists.specs.Ends.{end_in, end_of}
 use Rattle.lists.specs.Ends as ends
-use Rattle.seams.specs.Seams.{Stop, stop_at, seam_of, seams_of}
+use Rattle.seams.specs.declared.Stop.{Stop}
+use Rattle.seams.specs.Seams.{stop_at, seam_of, seams_of}
 use Rattle.marks.specs.Marks.{new_uses}
 use Rattle.marks.proofs.Marks.{length_new_uses, get_or_new_uses}
 use Rattle.split.specs.Split.{seams, no_edge, edge_after, front_after, back_after, uses_to_walk}
@@ -196,12 +197,3 @@ module _ (l : LentSplit) where
             → pick b (edge_after (given_in l) (u / 2)).front (edge_after (given_in l) (u / 2)).back < l.vertices
         go true r = r.0
         go false r = r.1
-
-    pub back_below : (u : ℕ) → u / 2 < l.edges + pairs l → back_after (given_in l) u < l.vertices
-    unfolding back_at back_of
-    back_below u h = go (eqb (u % 2) 0) (ends_below (u / 2) h)
-      where
-        go : (b : Bool) → ((edge_after (given_in l) (u / 2)).front < l.vertices) × ((edge_after (given_in l) (u / 2)).back < l.vertices)
-            → pick b (edge_after (given_in l) (u / 2)).back (edge_after (given_in l) (u / 2)).front < l.vertices
-        go true r = r.1
-        go false r = r.0

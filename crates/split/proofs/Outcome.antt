@@ -1,40 +1,36 @@
 -- The definition of the call, from what its steps gave: on each of its ways out the answer and every slice are those of `split_outcome`.
 -- Assumes nothing.
 use mathlib.Core.Path.{◌≡◌, refl, ap, sym, ◌∙◌}
-use mathlib.Core.Bool.{Bool, true, false, not}
-use mathlib.Core.List.{List, [], ◌++◌}
+use mathlib.Core.Bool.{Bool, true, false}
+use mathlib.Core.List.{List, ◌++◌}
 use Prim.Native.Nat.{ℕ, zero, suc, ◌+◌, ◌-◌, ◌*◌, ◌/◌, ◌%◌, ◌≤◌, ◌<◌}
 use native.Mathlib.Omega.{arith}
 use native.Mathlib.Decide.{dec_lt}
 use borrow.Author.Tests.{le-ltb}
-use lib.Dec.{eqb, ltb}
+use lib.Dec.{eqb}
 use lib.ListN.{length, get_or, take, length-append, get_or-eq_default}
 use lib.Seq.{length-take-le, get_or-take}
 use Rattle.compress.specs.declared.Edge.{Edge}
 use Rattle.compress.specs.declared.Refusal.{Refusal}
 use Rattle.compress.specs.Layout.{store_from, rows}
 use Rattle.compress.specs.Records.{pick, front_of, back_of, front_at, back_at}
-use Rattle.compress.specs.Refusals.{refusal_of}
-use Rattle.compress.specs.Said.{refused}
+use Rattle.compress.specs.Refusals.{refusal_number}
 use Rattle.compress.specs.Rows.{edge_of, edge_at, edge_number_layout, edge_float_layout}
-use Rattle.compress.specs.Shell.{edges_fit}
 use Rattle.compress.proofs.Layouts.{length_rows, rows_agree, store_append, store_same}
 use Rattle.compress.proofs.Room.{edges_room}
 use Rattle.compress.proofs.Rows.{edge_numbers_stand, edge_floats_stand}
-use Rattle.checks.specs.Causes.{count_cause, vertex_number_cause, edges_cause, uses_cause}
 use Rattle.checks.proofs.Accepted.{edge_ends}
-use Rattle.checks.proofs.Small.{when_small, pick_small, lower_small, lowest_small, edges_small, uses_small, uv_small, count_small, vertex_number_small, refusal_told}
 use Rattle.lists.specs.Ends.{end_of}
 use Rattle.walk.specs.Walk.{Answer, wires}
 use Rattle.walk.specs.Table.{table_walk}
 use Rattle.walk.proofs.Same.{same}
-use Rattle.split.specs.declared.Boundaries.TheVariants.{SplitRefused}
-use Rattle.seams.specs.Seams.{stop_at, seams_of, repeats_after}
+use Rattle.std.proofs.Common.{Err}
+use Rattle.compress.proofs.Refused.{number_above}
+use Rattle.seams.specs.Seams.{stop_at, seams_of}
 use Rattle.marks.specs.Marks.{new_uses, marked_by}
-use Rattle.split.specs.Split.{Given, seams, edges_after, no_edge, edge_after, front_after, back_after, uses_to_walk, marked_in, split_wires}
-use Rattle.split_causes.specs.Causes.{Buffers, LentSplit, face_total, rebuilt_total, pairs, split_count, split_wires_cause, split_input_cause, room_cause, split_room_cause, then_cause, split_cause}
-use Rattle.split.specs.Contract.{leaves_split, given_in, split_stored, SplitOutcome, after_walk, cause_or_walk, split_outcome}
-use Rattle.seams.specs.Stops.{stop_cause, stops_cause, odd_cause}
+use Rattle.split.specs.Split.{seams, edges_after, no_edge, edge_after, front_after, back_after, uses_to_walk, marked_in, split_wires}
+use Rattle.split_causes.specs.Causes.{LentSplit, face_total, rebuilt_total, pairs, split_cause}
+use Rattle.split.specs.Contract.{leaves_split, given_in, split_stored, SplitOutcome, after_walk, split_outcome}
 use Rattle.marks.specs.Walking.{Walkable, lent_walk}
 use Rattle.split.specs.Steps.{Roomy, after_lent}
 use Rattle.split_causes.proofs.Accepted.{SplitChecked, split_checked}
@@ -243,84 +239,17 @@ module _ (l : LentSplit) (C : SplitChecked l) where
   stops_size = sym size_stops
 
 -- no cause was found before the walk
-pub checked : (l : LentSplit) (k : ℕ) → k ≡ split_cause l → k ≡ 0 → SplitChecked l
-checked l k e z = split_checked l (sym e ∙ z)
+pub checked : (l : LentSplit) → 0 ≡ split_cause l → SplitChecked l
+checked l e = split_checked l (sym e)
 
 -- and the call leaves what the walk has left
-module _ (l : LentSplit) (k : ℕ) (e : k ≡ split_cause l) (z : k ≡ 0) (n m : ℕ) (en : n ≡ face_total l) (em : m ≡ rebuilt_total l) where
-  pub call_told : (o : SplitOutcome)
-      → o ≡ after_lent l.buffers l.edges (seams_in l (checked l k e z)) (lent_walk l.buffers.en l.edges (take n l.face_uses) (take m l.rebuilt_uses) (stops_in l (checked l k e z)) (pairs l))
-      → (o ≡ split_outcome l) × KeepsUses l o
-  call_told o q = call_done l (checked l k e z) n m en em o (sym e ∙ z) q
+pub call_told : (l : LentSplit) (e : 0 ≡ split_cause l) {n m : ℕ} → n ≡ face_total l → m ≡ rebuilt_total l → {o : SplitOutcome}
+    → o ≡ after_lent l.buffers l.edges (seams_in l (checked l e)) (lent_walk l.buffers.en l.edges (take n l.face_uses) (take m l.rebuilt_uses) (stops_in l (checked l e)) (pairs l))
+    → (o ≡ split_outcome l) × KeepsUses l o
+call_told l e {n} {m} en em {o} q = call_done l (checked l e) n m en em o (sym e) q
 
 -- a cause before the walk: its refusal, and nothing written
-or_walk : (k : ℕ) (g : Given) (b : Buffers) (a : Answer) → (k ≡ 0 → ⊥) → cause_or_walk k g b a ≡ record { said = refused k; buffers = b }
-or_walk zero g b a ne = absurd (ne refl)
-or_walk (suc k) g b a ne = refl
-
-module _ (l : LentSplit) where
-  wires_small : split_wires_cause l.edges l.face_uses l.face_lengths l.face_wires l.rebuilt_uses l.rebuilt_lengths l.rebuilt_wires ≤ 15
-  unfolding split_wires_cause
-  wires_small =
-      pick_small (ltb 64 (l.face_wires + l.rebuilt_wires)) _
-      (pick_small (ltb (length l.face_lengths) l.face_wires) _
-      (pick_small (ltb (length l.rebuilt_lengths) l.rebuilt_wires) _
-      (pick_small (ltb 1024 (face_total l + rebuilt_total l)) _
-      (pick_small (ltb (length l.face_uses) (face_total l)) _
-      (pick_small (ltb (length l.rebuilt_uses) (rebuilt_total l)) _
-      (lower_small (uses_cause l.edges l.face_uses (face_total l)) _ (uses_small l.edges l.face_uses (face_total l)) (uses_small l.edges l.rebuilt_uses (rebuilt_total l))))))))
-
-  stop_small : (i : ℕ) → stop_cause l.vertices l.divisor l.points i ≤ 15
-  unfolding stop_cause
-  stop_small i =
-      let p = stop_at l.divisor l.points i in
-      lower_small (vertex_number_cause l.vertices p.vertex) _ (vertex_number_small l.vertices p.vertex) (uv_small p.point)
-
-  stops_small : stops_cause l.vertices l.divisor l.points l.stops ≤ 15
-  unfolding stops_cause
-  stops_small =
-      pick_small (ltb (length l.divisor) l.stops) _
-      (pick_small (ltb (length l.points) (l.stops * 2)) _ (lowest_small (stop_cause l.vertices l.divisor l.points) l.stops stop_small))
-
-  input_small : split_input_cause l ≤ 15
-  unfolding split_input_cause
-  input_small =
-      lower_small (count_cause 4096 l.vertices) _ (count_small 4096 l.vertices)
-      (lower_small (edges_cause l.vertices l.buffers.en l.buffers.ef l.edges) _ (edges_small l.vertices l.buffers.en l.buffers.ef l.edges)
-      (lower_small _ _ wires_small stops_small))
-
-  six_small : (b : Bool) (n : ℕ) → n ≤ 15 → pick b 6 n ≤ 15
-  six_small true n h = omega arith
-  six_small false n h = h
-
-  room_small : split_room_cause l ≤ 15
-  unfolding room_cause
-  room_small =
-      six_small (ltb 1024 (split_count l)) _
-      (six_small (ltb (length l.buffers.us) (split_count l)) _
-      (six_small (ltb (length l.buffers.ls) (split_count l)) _ (when_small (not (edges_fit l.buffers.en l.buffers.ef (l.edges + pairs l))) 6 (omega arith))))
-
-  then_small : (a b : ℕ) → a ≤ 15 → b ≤ 15 → then_cause a b ≤ 15
-  then_small zero b h g = g
-  then_small (suc a) b h g = h
-
-  cause_small : split_cause l ≤ 15
-  unfolding split_cause
-  cause_small =
-      then_small (split_input_cause l) _ input_small
-      (then_small (split_room_cause l) _ room_small
-      (then_small (odd_cause l.stops) _ (when_small (eqb (l.stops % 2) 1) 9 (omega arith)) (when_small (repeats_after [] (take l.stops l.divisor)) 10 (omega arith))))
-
-  call_cause : (k : ℕ) (r : Refusal) → r ≡ refusal_of k → k ≡ split_cause l → (k ≡ 0 → ⊥)
-      → leaves_split (SplitRefused r) l.buffers.en l.buffers.ef l.buffers.us l.buffers.ls ≡ split_outcome l
-  unfolding split_outcome
-  call_cause k r p q ne =
-      let small : k ≤ 15 = rw q cause_small in
-      rw (p, refusal_told k small ne, ← q, or_walk k (given_in l) l.buffers (split_wires (given_in l)) ne)
-
-  pub call_refused : (k : ℕ) (r : Refusal) → r ≡ refusal_of k → k ≡ split_cause l → (k ≡ 0 → ⊥)
-      → (leaves_split (SplitRefused r) l.buffers.en l.buffers.ef l.buffers.us l.buffers.ls ≡ split_outcome l)
-      × KeepsUses l (leaves_split (SplitRefused r) l.buffers.en l.buffers.ef l.buffers.us l.buffers.ls)
-  call_refused k r p q ne =
-      let d = call_cause k r p q ne in
-      (d, call_keeps l (leaves_split (SplitRefused r) l.buffers.en l.buffers.ef l.buffers.us l.buffers.ls) d)
+pub call_refused : (l : LentSplit) (r : Refusal) → refusal_number r ≡ split_cause l
+    → leaves_split (Err r) l.buffers.en l.buffers.ef l.buffers.us l.buffers.ls ≡ split_outcome l
+unfolding split_outcome
+call_refused l r q = let p = number_above r in rw (← q, p.1)

@@ -1,37 +1,25 @@
 -- The contract of the call `split_boundaries_by_divisor`: one answer and one content of every lent slice for each input. Definitions only.
-use Rattle.std.specs.Prelude.{List, ℕ, zero, suc, Float, length, take}
+use Rattle.std.specs.Prelude.{List, ℕ, zero, suc, Float, length, take, Result}
 use Rattle.compress.specs.Layout.{store, rows}
-use Rattle.compress.specs.Refusals.{refusal_number}
+use Rattle.compress.specs.declared.Refusal.{Refusal}
 use Rattle.compress.specs.Rows.{edge_at, edge_number_layout, edge_float_layout}
-use Rattle.compress.specs.Said.{Said, result, refused}
+use Rattle.compress.specs.Said.{Said, result, refused, said_of}
 use Rattle.compress.specs.Wires.{uses_of, lengths_of, over}
 use Rattle.walk.specs.Walk.{Answer, wires}
 use Rattle.split_causes.specs.Causes.{Buffers, LentSplit, face_total, rebuilt_total, split_cause}
 use Rattle.split.specs.declared.Boundaries.{Boundaries}
-use Rattle.split.specs.declared.Boundaries.TheVariants.{Split, SplitRefused}
 use Rattle.seams.specs.Seams.{stop_at}
 use Rattle.split.specs.Split.{Given, edges_after, split_wires}
 use Rattle.walk.specs.Walk as walk
 
--- how many wires, uses and edges a result has
-pub record SplitCounts : Type 0 where
-  pub wires : ℕ
-  pub uses : ℕ
-  pub edges : ℕ
-
--- the answer's cases in document 01's terms
-abbrev pub said_split : Boundaries → Said SplitCounts
-said_split (Split w u e) = result (record { wires = w; uses = u; edges = e })
-said_split (SplitRefused r) = refused (refusal_number r)
-
 -- what a call leaves: its answer, and the contents of these slices
 pub record SplitOutcome : Type 0 where
-  pub said : Said SplitCounts
+  pub said : Said Boundaries
   pub buffers : Buffers
 
 -- what a call leaves, as one record
-abbrev pub leaves_split : Boundaries → List ℕ → List Float → List ℕ → List ℕ → SplitOutcome
-leaves_split r en ef us ls = record { said = said_split r; buffers = record { en = en; ef = ef; us = us; ls = ls } }
+abbrev pub leaves_split : Result Boundaries Refusal → List ℕ → List Float → List ℕ → List ℕ → SplitOutcome
+leaves_split r en ef us ls = record { said = said_of (λ b. b) r; buffers = record { en = en; ef = ef; us = us; ls = ls } }
 
 -- the records that lie in the slices
 unfoldable pub given_in : LentSplit → Given

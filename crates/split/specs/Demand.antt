@@ -6,8 +6,9 @@ use Rattle.compress.specs.Wires.{wires_of, uses_of}
 use Rattle.lists.specs.Members.{count}
 use Rattle.walk.specs.Claim.{Wire, out, into}
 use Rattle.marks.specs.Marks.{is_new_edge}
+use Rattle.split.specs.declared.Boundaries.{Boundaries}
 use Rattle.split.specs.Split.{front_after, back_after, uses_to_walk}
-use Rattle.split.specs.Contract.{SplitCounts, given_in, SplitOutcome}
+use Rattle.split.specs.Contract.{given_in, SplitOutcome}
 use Rattle.split_causes.specs.Causes.{LentSplit, rebuilt_total, pairs, split_cause}
 
 -- the front and the back of a use: "those of the lent edges and of the pairs"
@@ -33,20 +34,20 @@ abbrev pub counted : LentSplit → ℕ → ℕ
 counted l u = count (eqb u) (take (rebuilt_total l) l.rebuilt_uses) + pick (is_new l (edge_of_use u)) 1 0
 
 -- answered wire number i, off the lent buffers
-abbrev pub answered_wire : SplitOutcome → SplitCounts → ℕ → List ℕ
+abbrev pub answered_wire : SplitOutcome → Boundaries → ℕ → List ℕ
 answered_wire o c i = get_or (wires_of o.buffers.us (take c.wires o.buffers.ls)) i []
 
 -- For every split that passes the checks made before the walk, in whatever order the uses come and whichever edges are marked:
 pub record KeepsUses (l : LentSplit) (o : SplitOutcome) : Type 0 where
   -- if each vertex is the front of as many uses as it is the back of, and the front of at most two, the split succeeds
-  pub succeeds : split_cause l ≡ 0 → ((v : ℕ) → fronts_at l v ≡ backs_at l v) → ((v : ℕ) → fronts_at l v ≤ 2) → (c : SplitCounts) × (o.said ≡ result c)
+  pub succeeds : split_cause l ≡ 0 → ((v : ℕ) → fronts_at l v ≡ backs_at l v) → ((v : ℕ) → fronts_at l v ≤ 2) → (c : Boundaries) × (o.said ≡ result c)
   -- if at any vertex the two numbers are unequal, it is refused
   pub refuses : split_cause l ≡ 0 → (v : ℕ) → fronts_at l v ≢ backs_at l v → (n : ℕ) × (o.said ≡ refused n)
   -- in every success each directed use stands in the answered wires exactly as often as it was counted
-  pub each : (c : SplitCounts) → o.said ≡ result c → (u : ℕ) → count (eqb u) (uses_of (wires_of o.buffers.us (take c.wires o.buffers.ls))) ≡ counted l u
+  pub each : (c : Boundaries) → o.said ≡ result c → (u : ℕ) → count (eqb u) (uses_of (wires_of o.buffers.us (take c.wires o.buffers.ls))) ≡ counted l u
   -- and these are the uses that it says
-  pub all : (c : SplitCounts) → o.said ≡ result c → uses_of (wires_of o.buffers.us (take c.wires o.buffers.ls)) ≡ take c.uses o.buffers.us
+  pub all : (c : Boundaries) → o.said ≡ result c → uses_of (wires_of o.buffers.us (take c.wires o.buffers.ls)) ≡ take c.uses o.buffers.us
   -- and each wire is closed, and of its backs the last, and no other, is its first front
-  pub wire : (c : SplitCounts) → o.said ≡ result c → (i : ℕ) → i < c.wires → Wire (front_in l) (back_in l) (answered_wire o c i)
+  pub wire : (c : Boundaries) → o.said ≡ result c → (i : ℕ) → i < c.wires → Wire (front_in l) (back_in l) (answered_wire o c i)
   -- where every vertex is balanced no dead end is met, whatever the degree
   pub no_dead_end : split_cause l ≡ 0 → ((v : ℕ) → fronts_at l v ≡ backs_at l v) → o.said ≢ refused 11

@@ -6,7 +6,8 @@ use Rattle.compress.specs.declared.Edge.{Edge}
 use Rattle.compress.specs.Records.{front_at, back_at}
 use Rattle.walk.specs.Walk.{Answer}
 use Rattle.walk.specs.Table.{table_walk}
-use Rattle.seams.specs.Seams.{Stop, seams_of}
+use Rattle.seams.specs.declared.Stop.{Stop}
+use Rattle.seams.specs.Seams.{seams_of}
 use Rattle.marks.specs.Marks.{new_uses, marked_by}
 
 -- what a split is given: how many vertices there are, the edges, the uses of the face's wires and of the wires to be rebuilt, the vertices on

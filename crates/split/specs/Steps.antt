@@ -3,14 +3,11 @@ use Rattle.std.specs.Prelude.{List, ℕ, ◌+◌, ◌*◌, ◌≤◌, Float, len
 use Rattle.compress.specs.declared.Edge.{Edge}
 use Rattle.compress.specs.Layout.{store_from}
 use Rattle.compress.specs.Rows.{edge_number_layout, edge_float_layout}
-use Rattle.compress.specs.Said.{Said, result, refused, on_result}
+use Rattle.compress.specs.Said.{result, refused}
 use Rattle.compress.specs.Wires.{uses_of, lengths_of, over}
-use Rattle.walk.specs.declared.Walked.{Walked}
-use Rattle.walk.specs.declared.Walked.TheVariants.{Done, DeadEnd, TooManyUses, EmptyList}
 use Rattle.walk.specs.Walk.{Answer, wires}
-use Rattle.walk.specs.Answered.{WalkCounts}
 use Rattle.split_causes.specs.Causes.{Buffers}
-use Rattle.split.specs.Contract.{SplitOutcome, SplitCounts}
+use Rattle.split.specs.Contract.{SplitOutcome}
 use Rattle.walk.specs.Walk as walk
 
 -- what a split leaves off the lent slices: the seams in the rows from `edges` on, and the wires that the walk answers
@@ -26,17 +23,6 @@ after_lent b edges seams (wires ws) =
       };
     }
 after_lent b edges seams (walk.refused c) = record { said = refused c; buffers = b }
-
--- the seams that are written, one for each pair; none where the walk stops
-abbrev pub seams_after : Walked → ℕ → ℕ
-seams_after (Done n t) pairs = pairs
-seams_after DeadEnd pairs = 0
-seams_after TooManyUses pairs = 0
-seams_after EmptyList pairs = 0
-
--- what is said after the walk, with the edges that there are now
-abbrev pub said_after : Said WalkCounts → ℕ → Said SplitCounts
-said_after s edges = on_result s (λ c. result (record { wires = c.wires; uses = c.uses; edges = edges }))
 
 -- a place for each of the counted uses, in both buffers, and a row for each seam
 pub record Roomy (b : Buffers) (edges count pairs : ℕ) (fs : List Float) : Type 0 where

@@ -1,6 +1,6 @@
 -- What a split without a cause before the walk is lent: every count within its bounds and what was lent, every number known, and room.
 -- Assumes nothing.
-use mathlib.Core.Path.{◌≡◌, refl, sym, ◌∙◌}
+use mathlib.Core.Path.{◌≡◌, refl, ◌∙◌}
 use mathlib.Core.Bool.{Bool, true, false, not}
 use mathlib.Core.List.{List, []}
 use Prim.Native.Nat.{ℕ, zero, suc, ◌+◌, ◌*◌, ◌/◌, ◌%◌, ◌≤◌, ◌<◌}
@@ -9,8 +9,11 @@ use borrow.Author.Tests.{ltb-false, leb-false, eqb-false, not-false}
 use lib.Dec.{eqb, leb, ltb}
 use lib.Ieee.{Float}
 use lib.ListN.{length, get_or, take}
+use Rattle.compress.specs.declared.Refusal.{Refusal}
 use Rattle.compress.specs.Records.{pick}
+use Rattle.compress.specs.Refusals.{refusal_number}
 use Rattle.compress.specs.Shell.{edges_fit}
+use Rattle.compress.proofs.Refused.{number_above}
 use Rattle.checks.specs.Causes.{when, lowest_of, edges_cause, uses_cause}
 use Rattle.checks.proofs.Accepted.{EdgesAccepted, passed, not_when, edges_accepted, uses_in}
 use Rattle.checks.proofs.Lowest.{lower_none, lowest_none}
@@ -120,29 +123,27 @@ split_checked l q =
     }
 
 -- ---- the causes before the walk, in the order in which they are looked for
-then_first : (a b : ℕ) → (a ≡ 0 → ⊥) → then_cause a b ≡ a
-then_first zero b ne = absurd (ne refl)
-then_first (suc a) b ne = refl
+then_refused : (r : Refusal) (a b : ℕ) → refusal_number r ≡ a → refusal_number r ≡ then_cause a b
+then_refused r a b q = let p = number_above r in rw (← q, p.1)
 
-then_next : (a b : ℕ) → a ≡ 0 → then_cause a b ≡ b
-then_next a b z = rw z
+then_next : (a b : ℕ) → 0 ≡ a → b ≡ then_cause a b
+then_next a b z = rw (← z)
 
 module _ (l : LentSplit) where
-  pub cause_input : (k : ℕ) → k ≡ split_input_cause l → (k ≡ 0 → ⊥) → k ≡ split_cause l
+  pub cause_input : (r : Refusal) → refusal_number r ≡ split_input_cause l → refusal_number r ≡ split_cause l
   unfolding split_cause
-  cause_input k q ne = sym (rw (← q) (then_first k _ ne))
+  cause_input r q = then_refused r (split_input_cause l) _ q
 
-  module _ (a : split_input_cause l ≡ 0) where
-    pub cause_room : (k : ℕ) → k ≡ split_room_cause l → (k ≡ 0 → ⊥) → k ≡ split_cause l
+  module _ (a : 0 ≡ split_input_cause l) where
+    pub cause_room : (r : Refusal) → refusal_number r ≡ split_room_cause l → refusal_number r ≡ split_cause l
     unfolding split_cause
-    cause_room k q ne = sym (then_next (split_input_cause l) _ a ∙ rw (← q) (then_first k _ ne))
+    cause_room r q = then_refused r (split_room_cause l) _ q ∙ then_next (split_input_cause l) _ a
 
-    module _ (b : split_room_cause l ≡ 0) where
-      pub cause_odd : (k : ℕ) → k ≡ odd_cause l.stops → (k ≡ 0 → ⊥) → k ≡ split_cause l
+    module _ (b : 0 ≡ split_room_cause l) where
+      pub cause_odd : (r : Refusal) → refusal_number r ≡ odd_cause l.stops → refusal_number r ≡ split_cause l
       unfolding split_cause
-      cause_odd k q ne = sym (then_next (split_input_cause l) _ a ∙ then_next (split_room_cause l) _ b ∙ rw (← q) (then_first k _ ne))
+      cause_odd r q = then_refused r (odd_cause l.stops) _ q ∙ then_next (split_room_cause l) _ b ∙ then_next (split_input_cause l) _ a
 
-      pub cause_repeat : odd_cause l.stops ≡ 0 → (k : ℕ) → k ≡ repeat_cause l.divisor l.stops → k ≡ split_cause l
+      pub cause_repeat : 0 ≡ odd_cause l.stops → {k : ℕ} → k ≡ repeat_cause l.divisor l.stops → k ≡ split_cause l
       unfolding split_cause
-      cause_repeat c k q =
-          q ∙ sym (then_next (split_input_cause l) _ a ∙ then_next (split_room_cause l) _ b ∙ then_next (odd_cause l.stops) _ c)
+      cause_repeat c q = q ∙ then_next (odd_cause l.stops) _ c ∙ then_next (split_room_cause l) _ b ∙ then_next (split_input_cause l) _ a

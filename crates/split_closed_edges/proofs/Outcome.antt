@@ -12,28 +12,28 @@ use lib.Ieee.{Float}
 use Rattle.compress.specs.declared.Edge.{Edge}
 use Rattle.compress.specs.Records.{closed, pick}
 use Rattle.compress.specs.Layout.{rows, store}
-use Rattle.compress.specs.Refusals.{refusal_of}
+use Rattle.compress.specs.declared.Refusal.{Refusal}
+use Rattle.compress.specs.Refusals.{refusal_number}
 use Rattle.compress.specs.Rows.{edge_at, vertex_at, edge_number_layout, edge_float_layout, vertex_number_layout, vertex_float_layout}
 use Rattle.compress.specs.Shell.{Shell, load, vertices_fit, edges_fit}
 use Rattle.compress.specs.Wires.{wires_of}
 use Rattle.compress.proofs.Layouts.{length_rows}
 use Rattle.compress.proofs.Room.{both, vertices_room, edges_room}
 use Rattle.checks.specs.Causes.{wires_cause}
-use Rattle.checks.proofs.Small.{refusal_told}
-use Rattle.cutting.specs.declared.Split.TheVariants.{Done, Refused}
 use Rattle.add_edges.specs.Add.{next, new_edge, new_vertex, kept_edges, new_edges, new_vertices, added_to}
 use Rattle.mending.specs.Replace.{replace_wires}
 use Rattle.split_closed_edges.specs.Pass.{split_closed_edges}
 use Rattle.add_edges.specs.Steps.{closed_count, Addable, Added, Marked}
-use Rattle.split_closed_edges.specs.Steps.{ClosedMended}
-use Rattle.mending.specs.Steps.{InPlace}
+use Rattle.split_closed_edges.specs.Steps.{closed_in, uses_told, ClosedMended}
+use Rattle.mending.specs.Steps.{InPlace, count_told}
 use Rattle.cutting.specs.Contract.{lent_of, leaves, input_cause}
 use Rattle.split_closed_edges.specs.Contract.{outcome_of}
 use Rattle.add_edges.proofs.Edges.{length_kept}
-use Rattle.compress.specs.declared.Refusal.TheVariants.{NoRoom}
+use Rattle.compress.specs.declared.Refusal.TheVariants as refusal
+use Rattle.std.specs.Prelude.{Result, Ok, Err, is_ok}
 use Rattle.split_closed_edges.specs.declared.Closing.{Closing}
-use Rattle.mending.specs.declared.Mend.{Mend}
-use Rattle.cutting.proofs.Outcome.{Accepted, accepted, no_cause, input_small, way_cause, vertices_stand, result_full, result_done}
+use Rattle.mending.specs.declared.NoRoom.{NoRoom}
+use Rattle.cutting.proofs.Outcome.{Accepted, accepted, no_cause, way_cause, vertices_stand, result_full, result_done}
 
 -- ---- as many new edges and new vertices as closed edges
 new_edge_length : (b : Bool) (n : ℕ) (e : Edge) (es : List Edge) (k : ℕ) → length es ≡ k → length (new_edge b n e ++ es) ≡ next b k
@@ -105,27 +105,28 @@ module _ (en : List ℕ) (edges : ℕ) (before added : List ℕ) (cuts : ℕ)
       let l : length (take edges added) ≡ edges = rw marked_map (length_added es (length es) ∙ les) in
       (rw l z, λ k. rw marked_map (added_small es (length es) 2147483648 k (omega arith) (omega (arith, les, h))))
 
--- what `mend_marked` comes to
-pub closed_mended : (en : List ℕ) (edges : ℕ) (us ls : List ℕ) (wires room : ℕ) (before added : List ℕ) (cuts : ℕ)
-    → ((ef : List Float) → Marked (rows (edge_at en ef) 0 edges) before added cuts) → (us' ls' : List ℕ) (m : Mend) (b : Bool) → b ≡ leb cuts room
-    → InPlace (replace_wires (take edges added) (wires_of us (take wires ls))) b us ls us' ls' m
-    → ClosedMended en edges wires room us ls us' ls' (record { cuts = cuts; fits = m.fits; uses = m.uses })
-closed_mended en edges us ls wires room before added cuts M us' ls' m b q I =
-    record {
-      cut = λ ef. (M ef).count;
-      mended = λ ef. rw (← q, ← marked_map en edges before added cuts M ef) I;
-    }
+-- What `mend_closed` comes to, from the count of closed edges and what the mending told.
+module _ (en : List ℕ) (edges : ℕ) (us ls : List ℕ) (wires room : ℕ) (before added : List ℕ) (cuts : ℕ)
+    (M : (ef : List Float) → Marked (rows (edge_at en ef) 0 edges) before added cuts) (us' ls' : List ℕ) (r : Result ℕ NoRoom)
+    (I : InPlace (replace_wires (take edges added) (wires_of us (take wires ls))) (leb cuts room) us ls us' ls' r) where
+  by_map : (ef : List Float) → InPlace (replace_wires (added_to (length (rows (edge_at en ef) 0 edges)) (rows (edge_at en ef) 0 edges)) (wires_of us (take wires ls)))
+      (leb (closed_in en ef edges) room) us ls us' ls' r
+  by_map ef = rw (← (M ef).count, ← marked_map en edges before added cuts M ef) I
+
+  pub closed_done : (n : ℕ) → r ≡ Ok n → ClosedMended en edges wires room us ls us' ls' (Ok (record { cuts = cuts; uses = n }))
+  closed_done n q = record { cut = λ ef. (M ef).count; mended = λ ef. rw q at (by_map ef) }
+
+  pub closed_full : (e : NoRoom) → r ≡ Err e → ClosedMended en edges wires room us ls us' ls' (Err e)
+  closed_full e q = record { cut = λ ef. tt; mended = λ ef. rw q at (by_map ef) }
 
 -- ---- the ways out of the call
 
 module _ (vn : List ℕ) (vf : List Float) (en : List ℕ) (ef : List Float) (us ls : List ℕ) (v e w : ℕ) where
   -- a cause: its refusal, and nothing written
-  pub outcome_cause : (k : ℕ) → k ≡ input_cause (lent_of vn vf en ef us ls v e w) → (k ≡ 0 → ⊥)
-      → leaves (Refused (refusal_of k)) vn vf en ef us ls ≡ outcome_of (lent_of vn vf en ef us ls v e w)
+  pub outcome_cause : (r : Refusal) → refusal_number r ≡ input_cause (lent_of vn vf en ef us ls v e w)
+      → leaves (Err r) vn vf en ef us ls ≡ outcome_of (lent_of vn vf en ef us ls v e w)
   unfolding outcome_of
-  outcome_cause k q ne =
-      let small : k ≤ 15 = rw q (input_small vn vf en ef us ls v e w) in
-      rw (refusal_told k small ne, ← q, way_cause k _ _ ne)
+  outcome_cause r q = way_cause r _ _ _ q
 
   -- the wires can be mended
   pub closable : input_cause (lent_of vn vf en ef us ls v e w) ≡ 0 → (e ≤ 4096) × (e * 4 ≤ length en) × (wires_cause e us ls w ≡ 0)
@@ -141,55 +142,64 @@ module _ (vn : List ℕ) (vf : List Float) (en : List ℕ) (ef : List Float) (us
 
   module _ (z : input_cause (lent_of vn vf en ef us ls v e w) ≡ 0) (room : ℕ)
       (has : (k : ℕ) → leb k room ≡ (vertices_fit vn vf (v + k) && edges_fit en ef (e + k)))
-      (us' ls' : List ℕ) (m : Closing) (M : ClosedMended en e w room us ls us' ls' m) where
+      (us' ls' : List ℕ) (m : Result Closing NoRoom) (M : ClosedMended en e w room us ls us' ls' m) where
     A : Accepted vn vf en ef us ls v e w
     A = accepted vn vf en ef us ls v e w z
 
-    kc : m.cuts ≡ closed_count edges_in
-    kc = M.cut ef
+    abbrev pub cuts : ℕ
+    cuts = closed_count edges_in
 
-    pub cuts_le : m.cuts ≤ 4096
-    cuts_le = omega (arith, count_le edges_in, length_rows (edge_at en ef) 0 e, A.edges.below, kc)
+    cuts_le : cuts ≤ 4096
+    cuts_le = omega (arith, count_le edges_in, length_rows (edge_at en ef) 0 e, A.edges.below)
 
-    vertices_are : length after.vertices ≡ v + m.cuts
+    vertices_are : length after.vertices ≡ v + cuts
     unfolding split_closed_edges load
     vertices_are =
         let lv : length (rows (vertex_at vn vf) 0 v) ≡ v = length_rows (vertex_at vn vf) 0 v in
-        length-append (rows (vertex_at vn vf) 0 v) (new_vertices edges_in) ∙ omega (arith, lv, kc, length_vertices edges_in)
+        length-append (rows (vertex_at vn vf) 0 v) (new_vertices edges_in) ∙ omega (arith, lv, length_vertices edges_in)
 
-    edges_are : length after.edges ≡ e + m.cuts
+    edges_are : length after.edges ≡ e + cuts
     unfolding split_closed_edges load
     edges_are =
         let n = length (rows (vertex_at vn vf) 0 v) in
         let le : length edges_in ≡ e = length_rows (edge_at en ef) 0 e in
-        length-append (kept_edges n edges_in) (new_edges n edges_in) ∙ omega (arith, le, kc, length_kept edges_in n, length_new edges_in n)
+        length-append (kept_edges n edges_in) (new_edges n edges_in) ∙ omega (arith, le, length_kept edges_in n, length_new edges_in n)
 
-    mended : InPlace after.wires (leb m.cuts room) us ls us' ls' (record { fits = m.fits; uses = m.uses })
+    mended : InPlace after.wires (leb cuts room) us ls us' ls' (uses_told m)
     unfolding split_closed_edges load
     mended = M.mended ef
 
     -- no room: 6, and nothing written
-    pub outcome_full : m.fits ≡ false → leaves (Refused NoRoom) vn vf en ef us' ls' ≡ outcome_of (lent_of vn vf en ef us ls v e w)
+    pub outcome_full : (x : NoRoom) → m ≡ Err x → leaves (Err refusal.NoRoom) vn vf en ef us' ls' ≡ outcome_of (lent_of vn vf en ef us ls v e w)
     unfolding outcome_of
-    outcome_full t = rw z (result_full vn vf en ef us ls v e w after m.cuts vertices_are edges_are room has us' ls' _ mended t)
+    outcome_full x q = rw z (result_full vn vf en ef us ls v e w after cuts vertices_are edges_are room has us' ls' _ mended (rw q))
 
     -- room: every table can be written
-    fit : m.fits ≡ true → (vertices_fit vn vf (v + m.cuts) ≡ true) × (edges_fit en ef (e + m.cuts) ≡ true)
-    fit t = both (vertices_fit vn vf (v + m.cuts)) (edges_fit en ef (e + m.cuts)) (sym (has m.cuts) ∙ (both (leb m.cuts room) _ (sym (M.mended ef).fits ∙ t)).0)
+    module _ (x : Closing) (q : m ≡ Ok x) where
+      told : is_ok (uses_told m) ≡ true
+      told = rw q
 
-    pub addable : m.fits ≡ true → Addable v e vn vf en ef
-    addable t =
-        let a = vertices_room vn vf (v + m.cuts) (fit t).0 in
-        let b = edges_room en ef (e + m.cuts) (fit t).1 in
-        let k = kc in
-        record {
-          below = omega arith;
-          vertex_numbers = omega arith;
-          vertex_floats = omega arith;
-          edge_numbers = omega arith;
-          edge_floats = omega arith;
-          kinds = A.edges.kinds;
-        }
+      pub cuts_are : x.cuts ≡ cuts
+      cuts_are = rw q at (M.cut ef)
+
+      pub cuts_few : x.cuts ≤ 4096
+      cuts_few = omega (arith, cuts_are, cuts_le)
+
+      fit : (vertices_fit vn vf (v + cuts) ≡ true) × (edges_fit en ef (e + cuts) ≡ true)
+      fit = both (vertices_fit vn vf (v + cuts)) (edges_fit en ef (e + cuts)) (sym (has cuts) ∙ (both (leb cuts room) _ (sym (M.mended ef).fits ∙ told)).0)
+
+      pub addable : Addable v e vn vf en ef
+      addable =
+          let a = vertices_room vn vf (v + cuts) fit.0 in
+          let b = edges_room en ef (e + cuts) fit.1 in
+          record {
+            below = omega arith;
+            vertex_numbers = omega arith;
+            vertex_floats = omega arith;
+            edge_numbers = omega arith;
+            edge_floats = omega arith;
+            kinds = A.edges.kinds;
+          }
 
     -- what `add_edges` left is the result, stored
     tables : (vn' : List ℕ) (vf' : List Float) (en' : List ℕ) (ef' : List Float) → Added v e vn vf en ef vn' vf' en' ef'
@@ -201,9 +211,10 @@ module _ (vn : List ℕ) (vf : List Float) (en : List ℕ) (ef : List Float) (us
         let s = vertices_stand vn vf en ef us ls v e w A (new_vertices edges_in) in
         (rw s.0 T.vertex_numbers, rw s.1 T.vertex_floats, rw lv T.edge_numbers, rw lv T.edge_floats)
 
-    pub outcome_done : (vn' : List ℕ) (vf' : List Float) (en' : List ℕ) (ef' : List Float) → m.fits ≡ true → Added v e vn vf en ef vn' vf' en' ef'
-        → leaves (Done (v + m.cuts) (e + m.cuts) m.uses) vn' vf' en' ef' us' ls' ≡ outcome_of (lent_of vn vf en ef us ls v e w)
+    pub outcome_done : (x : Closing) → m ≡ Ok x → (vn' : List ℕ) (vf' : List Float) (en' : List ℕ) (ef' : List Float) → Added v e vn vf en ef vn' vf' en' ef'
+        → leaves (Ok (record { vertices = v + x.cuts; edges = e + x.cuts; uses = x.uses })) vn' vf' en' ef' us' ls' ≡ outcome_of (lent_of vn vf en ef us ls v e w)
     unfolding outcome_of
-    outcome_done vn' vf' en' ef' t T =
+    outcome_done x q vn' vf' en' ef' T =
         let s = tables vn' vf' en' ef' T in
-        rw z (result_done vn vf en ef us ls v e w after m.cuts vertices_are edges_are room has us' ls' _ mended vn' vf' en' ef' t s.0 s.1 s.2 s.3)
+        let t : count_told (uses_told m) ≡ x.uses = rw q in
+        rw (cuts_are x q, ← t, z) (result_done vn vf en ef us ls v e w after cuts vertices_are edges_are room has us' ls' _ mended vn' vf' en' ef' (told x q) s.0 s.1 s.2 s.3)

@@ -1,16 +1,26 @@
 -- What the mending of the wires in the closed-edge pass asks and leaves. Definitions only.
-use Rattle.std.specs.Prelude.{◌≡◌, List, ℕ, leb, Float, length, take}
+use Rattle.std.specs.Prelude.{◌≡◌, Result, Ok, Err, IfOk, List, ℕ, leb, Float, length, take}
 use Rattle.compress.specs.Layout.{rows}
 use Rattle.compress.specs.Rows.{edge_at}
 use Rattle.compress.specs.Wires.{wires_of}
 use Rattle.mending.specs.Replace.{replace_wires}
+use Rattle.mending.specs.declared.NoRoom.{NoRoom}
 use Rattle.mending.specs.Steps.{InPlace}
 use Rattle.add_edges.specs.Add.{added_to}
 use Rattle.add_edges.specs.Steps.{closed_count}
 use Rattle.split_closed_edges.specs.declared.Closing.{Closing}
 
--- how many edges are closed, and the wires mended by their map, in place where there is room
-pub record ClosedMended (en : List ℕ) (edges wires room : ℕ) (us ls us' ls' : List ℕ) (r : Closing) : Type 0 where
-  pub cut : (ef : List Float) → r.cuts ≡ closed_count (rows (edge_at en ef) 0 edges)
+-- how many edges are closed
+abbrev pub closed_in : List ℕ → List Float → ℕ → ℕ
+closed_in en ef edges = closed_count (rows (edge_at en ef) 0 edges)
+
+-- what the mending alone told
+abbrev pub uses_told : Result Closing NoRoom → Result ℕ NoRoom
+uses_told (Ok m) = Ok m.uses
+uses_told (Err e) = Err e
+
+-- the wires mended by the map of the closed edges, in place where there is room for the uses and for the halves, and how many edges are closed
+pub record ClosedMended (en : List ℕ) (edges wires room : ℕ) (us ls us' ls' : List ℕ) (r : Result Closing NoRoom) : Type 0 where
+  pub cut : (ef : List Float) → IfOk r (λ m. m.cuts ≡ closed_in en ef edges)
   pub mended : (ef : List Float) → InPlace (replace_wires (added_to (length (rows (edge_at en ef) 0 edges)) (rows (edge_at en ef) 0 edges)) (wires_of us (take wires ls)))
-      (leb r.cuts room) us ls us' ls' (record { fits = r.fits; uses = r.uses })
+      (leb (closed_in en ef edges) room) us ls us' ls' (uses_told r)

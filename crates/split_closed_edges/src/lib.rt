@@ -7,42 +7,37 @@ ghost use Rattle.cutting.specs.Contract.{lent_of, leaves, input_cause};
 ghost use Rattle.split_closed_edges.specs.Steps.{ClosedMended};
 ghost use Rattle.split_closed_edges.specs.Contract.{outcome_of};
 
-use compress::Refusal;
-use cutting::Split;
+use compress::{Counts, Refusal};
+use mending::NoRoom;
 
-// What the mending of the wires comes to: how many edges are closed, how many uses the wires have, and whether there was room, so that they
-// were written.
+// How many edges are closed, and how many uses the mended wires have.
 #[derive(Clone, Copy)]
 struct Closing {
     cuts: usize,
-    fits: bool,
     uses: usize,
 }
 
-// The wires are mended in place by the map of the closed edges, which is made in a table that is lent. `room` is how many cuts the tables of
-// the shell have room for.
-fn mend_marked(
+// The wires are mended in place by the map of the closed edges, which is made in a table of N entries. `room` is how many cuts the tables of the
+// shell have room for.
+fn mend_within<const N: usize>(
     edge_numbers: &[u32],
     edges: usize,
     uses: &mut [u32],
     lengths: &mut [u32],
     wires: usize,
     room: usize,
-    added: &mut [u32],
-) -> Closing
-    requires { (edges ≤ 4096) × (edges * 4 ≤ length edge_numbers.now) × (wires_cause edges uses.old lengths.old wires ≡ 0) × (edges ≤ length added.old) }
+) -> Result<Closing, NoRoom>
+    requires table { (edges ≤ N) × (N ≤ 4096) × (edges * 4 ≤ length edge_numbers.now) }
+    requires wires_value { wires_cause edges uses.old lengths.old wires ≡ 0 }
     ensures { ClosedMended edge_numbers.now edges wires room uses.old lengths.old uses.new lengths.new result }
 {
-    let cuts = add_edges::mark_closed(edge_numbers, edges, added);
-    let m = mending::mend_wires(uses, lengths, wires, &added[..edges], cuts <= room);
-    Closing {
-        cuts,
-        fits: m.fits,
-        uses: m.uses,
-    }
+    let mut added = [0u32; N];
+    let cuts = add_edges::mark_closed(edge_numbers, edges, &mut added);
+    let uses = mending::mend_wires(uses, lengths, wires, &added[..edges], cuts <= room)?;
+    Ok(Closing { cuts, uses })
 }
 
-// The same with a table of its own. Few edges have a small one, since to zero it takes time.
+// The same by a table that is large enough: few edges have a small one, since to zero it takes time.
 fn mend_closed(
     edge_numbers: &[u32],
     edges: usize,
@@ -50,16 +45,16 @@ fn mend_closed(
     lengths: &mut [u32],
     wires: usize,
     room: usize,
-) -> Closing
-    requires { (edges ≤ 4096) × (edges * 4 ≤ length edge_numbers.now) × (wires_cause edges uses.old lengths.old wires ≡ 0) }
+) -> Result<Closing, NoRoom>
+    requires table { (edges ≤ 4096) × (edges * 4 ≤ length edge_numbers.now) }
+    requires wires_value { wires_cause edges uses.old lengths.old wires ≡ 0 }
     ensures { ClosedMended edge_numbers.now edges wires room uses.old lengths.old uses.new lengths.new result }
 {
     if edges <= 64 {
-        let mut added = [0u32; 64];
-        return mend_marked(edge_numbers, edges, uses, lengths, wires, room, &mut added);
+        mend_within::<64>(edge_numbers, edges, uses, lengths, wires, room)
+    } else {
+        mend_within::<4096>(edge_numbers, edges, uses, lengths, wires, room)
     }
-    let mut added = [0u32; 4096];
-    mend_marked(edge_numbers, edges, uses, lengths, wires, room, &mut added)
 }
 
 // The pass over a shell that has none of the causes 1 to 5. Nothing lent is written before the room for all of the result is judged.
@@ -73,7 +68,7 @@ fn split_checked(
     vertices: usize,
     edges: usize,
     wires: usize,
-) -> Split
+) -> Result<Counts, Refusal>
     requires { input_cause (lent_of vertex_numbers.old vertex_floats.old edge_numbers.old edge_floats.old uses.old lengths.old vertices edges wires) ≡ 0 }
     ensures { leaves result vertex_numbers.new vertex_floats.new edge_numbers.new edge_floats.new uses.new lengths.new ≡ outcome_of (lent_of vertex_numbers.old vertex_floats.old edge_numbers.old edge_floats.old uses.old lengths.old vertices edges wires) }
 {
@@ -85,23 +80,20 @@ fn split_checked(
         vertices,
         edges,
     );
-    let m = mend_closed(edge_numbers, edges, uses, lengths, wires, room);
-    if m.fits {
-        add_edges::add_edges(
-            vertex_numbers,
-            vertex_floats,
-            edge_numbers,
-            edge_floats,
-            vertices,
-            edges,
-        );
-        return Split::Done {
-            vertices: vertices + m.cuts,
-            edges: edges + m.cuts,
-            uses: m.uses,
-        };
-    }
-    Split::Refused(Refusal::NoRoom)
+    let m = mend_closed(edge_numbers, edges, uses, lengths, wires, room)?;
+    add_edges::add_edges(
+        vertex_numbers,
+        vertex_floats,
+        edge_numbers,
+        edge_floats,
+        vertices,
+        edges,
+    );
+    Ok(Counts {
+        vertices: vertices + m.cuts,
+        edges: edges + m.cuts,
+        uses: m.uses,
+    })
 }
 
 // `split_closed_edges`: every closed edge of the lent tables is cut, and every wire mended, in place.
@@ -116,10 +108,10 @@ pub fn split_closed_edges(
     vertices: usize,
     edges: usize,
     wires: usize,
-) -> Split
+) -> Result<Counts, Refusal>
     ensures { leaves result vertex_numbers.new vertex_floats.new edge_numbers.new edge_floats.new uses.new lengths.new ≡ outcome_of (lent_of vertex_numbers.old vertex_floats.old edge_numbers.old edge_floats.old uses.old lengths.old vertices edges wires) }
 {
-    let cause = cutting::input_cause(
+    cutting::input_cause(
         vertex_numbers,
         vertex_floats,
         edge_numbers,
@@ -129,10 +121,7 @@ pub fn split_closed_edges(
         vertices,
         edges,
         wires,
-    );
-    if cause != 0 {
-        return Split::Refused(compress::refusal_of(cause));
-    }
+    )?;
     split_checked(
         vertex_numbers,
         vertex_floats,

@@ -1,7 +1,7 @@
 -- The walk arrives at a vertex: what the step is, and what it leaves in the tables. Definitions only.
-use Rattle.std.specs.Prelude.{ℕ, ◌+◌, ◌≡◌, Bool, true, false, List, get_or, set}
-use Rattle.step.specs.declared.Step.{Step}
-use Rattle.step.specs.declared.Step.TheVariants.{Use, DeadEnd, TooManyUses, EmptyList}
+use Rattle.std.specs.Prelude.{ℕ, ◌+◌, ◌≡◌, Bool, true, false, List, get_or, set, Result, Ok, Err}
+use Rattle.compress.specs.declared.Refusal.{Refusal}
+use Rattle.compress.specs.declared.Refusal.TheVariants.{DeadEnd, TooManyUses, EmptyList}
 
 -- "Exactly one of current use and first use is marked."
 abbrev pub exactly_one : Bool → Bool → Bool
@@ -11,26 +11,13 @@ exactly_one false true = true
 exactly_one false false = false
 
 -- The walk arrives at the vertex v with the use u: what the step is, and what it leaves in the tables; where it takes no use, they stay.
-pub data Went (marked : ℕ → Bool) (us hd nx : List ℕ) (v u : ℕ) (s : Step) (hd' nx' : List ℕ) : Type 0 where
-  absent : get_or hd v 0 ≡ 0 → s ≡ DeadEnd → hd' ≡ hd → nx' ≡ nx → Went marked us hd nx v u s hd' nx'
-  empty : get_or hd v 0 ≡ 1 → s ≡ EmptyList → hd' ≡ hd → nx' ≡ nx → Went marked us hd nx v u s hd' nx'
-  many : (p a b : ℕ) → get_or hd v 0 ≡ p + 2 → get_or nx p 0 ≡ a + 1 → get_or nx a 0 ≡ b + 1 → s ≡ TooManyUses → hd' ≡ hd → nx' ≡ nx → Went marked us hd nx v u s hd' nx'
+pub data Went (marked : ℕ → Bool) (us hd nx : List ℕ) (v u : ℕ) (s : Result ℕ Refusal) (hd' nx' : List ℕ) : Type 0 where
+  absent : get_or hd v 0 ≡ 0 → s ≡ Err DeadEnd → hd' ≡ hd → nx' ≡ nx → Went marked us hd nx v u s hd' nx'
+  empty : get_or hd v 0 ≡ 1 → s ≡ Err EmptyList → hd' ≡ hd → nx' ≡ nx → Went marked us hd nx v u s hd' nx'
+  many : (p a b : ℕ) → get_or hd v 0 ≡ p + 2 → get_or nx p 0 ≡ a + 1 → get_or nx a 0 ≡ b + 1 → s ≡ Err TooManyUses → hd' ≡ hd → nx' ≡ nx → Went marked us hd nx v u s hd' nx'
   one : (p : ℕ) → get_or hd v 0 ≡ p + 2 → get_or nx p 0 ≡ 0
-      → s ≡ Use (get_or us p 0) → hd' ≡ set hd v 0 → nx' ≡ nx → Went marked us hd nx v u s hd' nx'
+      → s ≡ Ok (get_or us p 0) → hd' ≡ set hd v 0 → nx' ≡ nx → Went marked us hd nx v u s hd' nx'
   second : (p a : ℕ) → get_or hd v 0 ≡ p + 2 → get_or nx p 0 ≡ a + 1 → get_or nx a 0 ≡ 0 → exactly_one (marked u) (marked (get_or us a 0)) ≡ false
-      → s ≡ Use (get_or us p 0) → hd' ≡ set hd v (get_or nx p 0 + 1) → nx' ≡ nx → Went marked us hd nx v u s hd' nx'
+      → s ≡ Ok (get_or us p 0) → hd' ≡ set hd v (get_or nx p 0 + 1) → nx' ≡ nx → Went marked us hd nx v u s hd' nx'
   first : (p a : ℕ) → get_or hd v 0 ≡ p + 2 → get_or nx p 0 ≡ a + 1 → get_or nx a 0 ≡ 0 → exactly_one (marked u) (marked (get_or us a 0)) ≡ true
-      → s ≡ Use (get_or us a 0) → hd' ≡ hd → nx' ≡ set nx p 0 → Went marked us hd nx v u s hd' nx'
-
--- The number of a step's refusal, 0 where it takes a use, and the use.
-abbrev pub cause_of : Step → ℕ
-cause_of (Use u) = 0
-cause_of DeadEnd = 11
-cause_of TooManyUses = 12
-cause_of EmptyList = 13
-
-abbrev pub use_of : Step → ℕ
-use_of (Use u) = u
-use_of DeadEnd = 0
-use_of TooManyUses = 0
-use_of EmptyList = 0
+      → s ≡ Ok (get_or us a 0) → hd' ≡ hd → nx' ≡ set nx p 0 → Went marked us hd nx v u s hd' nx'

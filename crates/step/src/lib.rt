@@ -4,23 +4,15 @@
 ghost use Rattle.std.specs.Prelude.{◌≡◌, ℕ, ◌/◌, ◌≤◌, ◌<◌, length, get_or};
 ghost use Rattle.lists.specs.Ends.{marked_of};
 ghost use Rattle.lists.specs.Lists.{Tables};
-ghost use Rattle.step.specs.Arrival.{exactly_one, Went, cause_of, use_of};
+ghost use Rattle.step.specs.Arrival.{exactly_one, Went};
 
-// What the arrival at a vertex comes to: the use that is taken there, or why the walk stops.
-#[derive(Clone, Copy)]
-pub enum Step {
-    Use(u32),
-    DeadEnd,
-    TooManyUses,
-    EmptyList,
-}
+use compress::Refusal;
 
 fn marked(marks: &[u32], u: u32) -> bool
     requires { u / 2 < length marks.now }
     ensures { result ≡ marked_of marks.now u }
 {
-    let e = lists::index(u / 2);
-    1 < marks[e]
+    1 < marks[(u / 2) as usize]
 }
 
 // Of two uses of a list: whether the first is taken, after the use `last`.
@@ -28,13 +20,7 @@ fn takes_first(marks: &[u32], last: u32, first: u32) -> bool
     requires { (last / 2 < length marks.now) × (first / 2 < length marks.now) }
     ensures { result ≡ exactly_one (marked_of marks.now last) (marked_of marks.now first) }
 {
-    if marked(marks, last) {
-        if marked(marks, first) {
-            return false;
-        }
-        return true;
-    }
-    marked(marks, first)
+    marked(marks, last) != marked(marks, first)
 }
 
 // The walk arrives at v with the use `last`. "If the back's list has one use, take it; if two, take the first where exactly one of
@@ -47,58 +33,31 @@ pub fn onward(
     next: &mut [u16; 1024],
     v: usize,
     last: u32,
-) -> Step
+) -> Result<u32, Refusal>
     requires v_bound { (v < 4096) × (length uses.now ≤ 1024) × (last / 2 < length marks.now) }
     requires by_index { (i : ℕ) → i < length uses.now → get_or uses.now i 0 / 2 < length marks.now }
     requires tables { Tables (length uses.now) head.old next.old }
     ensures { Went (marked_of marks.now) uses.now head.old next.old v last result head.new next.new }
 {
-    let h = lists::wide(head[v]);
-    if h == 0 {
-        return Step::DeadEnd;
-    }
-    if h == 1 {
-        return Step::EmptyList;
-    }
-    let p = h - 2;
+    let p = match head[v] {
+        0 => return Err(Refusal::DeadEnd),
+        1 => return Err(Refusal::EmptyList),
+        h => usize::from(h) - 2,
+    };
     let m = next[p];
     if m == 0 {
         head[v] = 0;
-        return Step::Use(uses[p]);
+        return Ok(uses[p]);
     }
-    let a = lists::wide(m) - 1;
+    let a = usize::from(m) - 1;
     if next[a] != 0 {
-        return Step::TooManyUses;
+        return Err(Refusal::TooManyUses);
     }
     let first = uses[a];
     if takes_first(marks, last, first) {
         next[p] = 0;
-        return Step::Use(first);
+        return Ok(first);
     }
     head[v] = m + 1;
-    Step::Use(uses[p])
-}
-
-// The number of a step's refusal; 0 where a use is taken.
-pub fn step_cause(s: Step) -> u32
-    ensures { result ≡ cause_of s }
-{
-    match s {
-        Step::Use(_) => 0,
-        Step::DeadEnd => 11,
-        Step::TooManyUses => 12,
-        Step::EmptyList => 13,
-    }
-}
-
-// The use that a step takes; 0 where it takes none.
-pub fn step_use(s: Step) -> u32
-    ensures { result ≡ use_of s }
-{
-    match s {
-        Step::Use(u) => u,
-        Step::DeadEnd => 0,
-        Step::TooManyUses => 0,
-        Step::EmptyList => 0,
-    }
+    Ok(uses[p])
 }

@@ -56,7 +56,7 @@ pub fn none() -> Answer
 pub fn refused(r: Refusal) -> Answer
     ensures { result ≡ record { number = refusal_number r; first = 0; second = 0; third = 0 } }
 {
-    no_result(compress::refusal_number(r) as u64)
+    no_result(u32::from(r) as u64)
 }
 
 // The results of a call.

@@ -3,15 +3,18 @@
 
 ghost use Rattle.std.specs.Prelude.{◌≡◌, true, ℕ, ◌+◌, ◌*◌, ◌≤◌, eqb, length, get_or};
 ghost use Rattle.std.specs.Float.{nan};
+ghost use Rattle.compress.specs.Refusals.{cause_of};
 ghost use Rattle.compress.specs.Rows.{curve_at};
 ghost use Rattle.compress.specs.declared.Vertex.TheVariants.{Pending};
 ghost use Rattle.checks.specs.Causes.{lowest_of, range_cause, parameter_cause, uv_cause, curve_cause, vertex_cause, point_cause, curve_kind_cause, edge_row_cause, vertex_row_cause, edges_cause, vertices_cause};
 
+use compress::{Checked, Refusal};
+
 // ---- rows
 
-fn edge_row(vertices: usize, numbers: &[u32], floats: &[f64], i: usize) -> u32
+fn edge_row(vertices: usize, numbers: &[u32], floats: &[f64], i: usize) -> Checked
     requires { (i * 4 + 4 ≤ length numbers.now) × (i * 6 + 6 ≤ length floats.now) }
-    ensures { result ≡ edge_row_cause vertices numbers.now floats.now i }
+    ensures { cause_of result ≡ edge_row_cause vertices numbers.now floats.now i }
 {
     let a = i * 4 + 2;
     let k = checks::kind(numbers[a]);
@@ -19,17 +22,17 @@ fn edge_row(vertices: usize, numbers: &[u32], floats: &[f64], i: usize) -> u32
     checks::lower(k, checks::edge(vertices, e))
 }
 
-fn curve_kind(kind: u32, curve_kind: u32) -> u32
-    ensures { result ≡ curve_kind_cause kind curve_kind }
+fn curve_kind(kind: u32, curve_kind: u32) -> Checked
+    ensures { cause_of result ≡ curve_kind_cause kind curve_kind }
 {
     let pending = kind == 1;
     let unknown = curve_kind > 1;
-    checks::cause_when(pending & unknown, 1)
+    checks::cause_when(pending & unknown, Refusal::Malformed)
 }
 
-fn vertex_row(numbers: &[u32], floats: &[f64], i: usize) -> u32
+fn vertex_row(numbers: &[u32], floats: &[f64], i: usize) -> Checked
     requires { (i * 3 + 3 ≤ length numbers.now) × (i * 7 + 7 ≤ length floats.now) }
-    ensures { result ≡ vertex_row_cause numbers.now floats.now i }
+    ensures { cause_of result ≡ vertex_row_cause numbers.now floats.now i }
 {
     let a = i * 3;
     let k = checks::kind(numbers[a]);
@@ -138,84 +141,66 @@ fn are_edges_sound(vertices: usize, numbers: &[u32], floats: &[f64], count: usiz
     ensures { result ≡ true → lowest_of (edge_row_cause vertices numbers.now floats.now) count ≡ 0 }
 {
     let bound = checks::narrow(vertices);
-    for i in 0..count {
-        if !is_edge_sound(bound, numbers, floats, i) {
-            return false;
-        }
-    }
-    true
+    (0..count).all(|i| is_edge_sound(bound, numbers, floats, i))
 }
 
 fn are_vertices_sound(numbers: &[u32], floats: &[f64], count: usize) -> bool
     requires { (count * 3 ≤ length numbers.now) × (count * 7 ≤ length floats.now) }
     ensures { result ≡ true → lowest_of (vertex_row_cause numbers.now floats.now) count ≡ 0 }
 {
-    for i in 0..count {
-        if !is_vertex_sound(numbers, floats, i) {
-            return false;
-        }
-    }
-    true
+    (0..count).all(|i| is_vertex_sound(numbers, floats, i))
 }
 
 // ---- tables
 
-fn edge_rows(vertices: usize, numbers: &[u32], floats: &[f64], count: usize) -> u32
+fn edge_rows(vertices: usize, numbers: &[u32], floats: &[f64], count: usize) -> Checked
     requires { (count * 4 ≤ length numbers.now) × (count * 6 ≤ length floats.now) }
-    ensures { result ≡ lowest_of (edge_row_cause vertices numbers.now floats.now) count }
+    ensures { cause_of result ≡ lowest_of (edge_row_cause vertices numbers.now floats.now) count }
 {
-    let mut least: u32 = 0;
-    for i in 0..count {
-        least = checks::lower(least, edge_row(vertices, numbers, floats, i));
-    }
-    least
+    checks::lowest_cause(count, |i| edge_row(vertices, numbers, floats, i))
 }
 
 // A table of edges between `vertices` vertices.
-pub fn edges(vertices: usize, numbers: &[u32], floats: &[f64], count: usize) -> u32
-    ensures { result ≡ edges_cause vertices numbers.now floats.now count }
+pub fn edges(vertices: usize, numbers: &[u32], floats: &[f64], count: usize) -> Checked
+    ensures { cause_of result ≡ edges_cause vertices numbers.now floats.now count }
 {
     if count > 4096 {
-        return 1;
+        return Err(Refusal::Malformed);
     }
     if numbers.len() < count * 4 {
-        return 1;
+        return Err(Refusal::Malformed);
     }
     if floats.len() < count * 6 {
-        return 1;
+        return Err(Refusal::Malformed);
     }
     if are_edges_sound(vertices, numbers, floats, count) {
-        return 0;
+        return Ok(());
     }
     edge_rows(vertices, numbers, floats, count)
 }
 
-fn vertex_rows(numbers: &[u32], floats: &[f64], count: usize) -> u32
+fn vertex_rows(numbers: &[u32], floats: &[f64], count: usize) -> Checked
     requires { (count * 3 ≤ length numbers.now) × (count * 7 ≤ length floats.now) }
-    ensures { result ≡ lowest_of (vertex_row_cause numbers.now floats.now) count }
+    ensures { cause_of result ≡ lowest_of (vertex_row_cause numbers.now floats.now) count }
 {
-    let mut least: u32 = 0;
-    for i in 0..count {
-        least = checks::lower(least, vertex_row(numbers, floats, i));
-    }
-    least
+    checks::lowest_cause(count, |i| vertex_row(numbers, floats, i))
 }
 
 // A table of vertices.
-pub fn vertices(numbers: &[u32], floats: &[f64], count: usize) -> u32
-    ensures { result ≡ vertices_cause numbers.now floats.now count }
+pub fn vertices(numbers: &[u32], floats: &[f64], count: usize) -> Checked
+    ensures { cause_of result ≡ vertices_cause numbers.now floats.now count }
 {
     if count > 4096 {
-        return 1;
+        return Err(Refusal::Malformed);
     }
     if numbers.len() < count * 3 {
-        return 1;
+        return Err(Refusal::Malformed);
     }
     if floats.len() < count * 7 {
-        return 1;
+        return Err(Refusal::Malformed);
     }
     if are_vertices_sound(numbers, floats, count) {
-        return 0;
+        return Ok(());
     }
     vertex_rows(numbers, floats, count)
 }

@@ -45,10 +45,3 @@ module _ (front back : ℕ → ℕ) (marked : ℕ → Bool) (st : State) where
   pub move_on : back st.last ≢ st.start → (b : List ℕ) → at front (back st.last) st.rest ≡ b
       → move front back marked st ≡ choose marked (marked st.last) b
   move_on d b e = ap (λ (t : Bool). turn front back marked t st) (ne_eqb _ _ d) ∙ ap (choose marked (marked st.last)) e
-
-  pub move_finish : back st.last ≡ st.start → ((v : ℕ) → at front v st.rest ≡ []) → move front back marked st ≡ finish
-  move_finish c e = ap (λ (t : Bool). turn front back marked t st) (eq-eqb _ _ c) ∙ begin_finish front st.rest e
-
-  pub move_fresh : back st.last ≡ st.start → (v : ℕ) → ((w : ℕ) → w < v → at front w st.rest ≡ []) → 0 < length (at front v st.rest)
-      → move front back marked st ≡ fresh v
-  move_fresh c v e h = ap (λ (t : Bool). turn front back marked t st) (eq-eqb _ _ c) ∙ begin_fresh front v st.rest e h

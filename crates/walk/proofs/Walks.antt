@@ -9,17 +9,19 @@ use mathlib.Core.Bool.{Bool, true, false}
 use mathlib.Core.List.{List, [], ◌∷◌, ◌++◌, map}
 use lib.ListN.{length, take, drop, get_or, set, replicate, length-append, length-set, length-drop, get_or-eq_default}
 use lib.Seq.{length-take-le, take-suc-set, take-set-le, get_or-set_other}
-use Rattle.walk.proofs.Small.{less_or, zeros, front_small, back_small}
+use Rattle.walk.proofs.Small.{zeros, front_small, back_small}
 use Rattle.walk.specs.Walk.{refuse, along, side, join, choose, walk}
 use Rattle.lists.specs.Members.{count, del, sits, at}
 use Rattle.walk.proofs.Buckets.{all_empty}
-use Rattle.step.specs.declared.Step.{Step}
-use Rattle.walk.specs.declared.Walked.{Walked}
+use Rattle.std.proofs.lemmas.Bool.{cases_lt}
+use Rattle.std.proofs.Common.{⊎_elim, Option, Some, None, Ok, Err, IsSome, unwrap_or}
+use Rattle.compress.specs.declared.Refusal.{Refusal}
+use Rattle.compress.specs.declared.Refusal.TheVariants.{DeadEnd, TooManyUses}
 use Rattle.lists.specs.Lists.{entry_of, Lists, Lowest, heads_after, nexts_after}
 use Rattle.lists.specs.Ends.{front_of, back_of, marked_of, Sound}
-use Rattle.step.specs.Arrival.{exactly_one, Went, absent, empty, many, one, second, first, cause_of, use_of}
+use Rattle.step.specs.Arrival.{exactly_one, Went, absent, empty, many, one, second, first}
 use Rattle.compress.specs.Wires.{total}
-use Rattle.walk.specs.Answered.{walked_of, Traced}
+use Rattle.walk.specs.Answered.{Traced}
 use Rattle.lists.proofs.Chains.{lists_all, chain_none, node, entry_some, lists_last, lists_first, two, one_only, three}
 use Rattle.walk.proofs.Steps.{going, after, after_walk, after_nil, going_refused, going_along, going_closed, after_fresh, shorter, wire_more, wire_first, wire_joined, join_snoc, map_snoc}
 
@@ -114,13 +116,12 @@ module _ {front back : ℕ → ℕ} {marked : ℕ → Bool} {us : List ℕ} wher
         omega arith
       where
         no_list : (v : ℕ) → 4096 ≤ r → get_or hd v 0 ≤ 1
-        no_list v g = less_or v r (λ h. low.below v h) (λ h. omega (arith, get_or-eq_default hd 0 {n = v} (omega (arith, B.lists.long_heads))))
+        no_list v g = ⊎_elim (λ h. low.below v h) (λ h. omega (arith, get_or-eq_default hd 0 {n = v} (omega (arith, B.lists.long_heads)))) (cases_lt v r)
 
-    pub between_done : {r : Walked} → length us ≤ 1024 → length us ≤ taken → r ≡ walked_of 0 n taken → Traced (walk front back marked us) (length us) made sizes r
-    unfolding Traced walked_of
-    between_done fits h er =
-        let e : B.rest ≡ [] = nil B.rest (omega (arith, B.count_is)) in
-        subst (λ (x : Walked). Traced (walk front back marked us) (length us) made sizes x) (sym er) (
+    pub between_done : length us ≤ 1024 → taken ≡ length us → Traced (walk front back marked us) (length us) made sizes (Ok (record { wires = n; uses = taken }))
+    unfolding Traced
+    between_done fits h =
+        let e : B.rest ≡ [] = nil B.rest (omega (arith, B.count_is)) in (
           record {
             ws = B.ws;
             is = sym B.to ∙ after_nil front back marked (length B.rest) B.rest B.ws e;
@@ -132,7 +133,7 @@ module _ {front back : ℕ → ℕ} {marked : ℕ → Bool} {us : List ℕ} wher
             long_made = B.long_made;
             long_sizes = B.long_sizes;
           },
-          omega (arith, B.count_is),
+          h,
         )
       where
         nil : (l : List ℕ) → length l ≡ 0 → l ≡ []
@@ -227,22 +228,22 @@ module _ {front back : ℕ → ℕ} {marked : ℕ → Bool} {us : List ℕ} wher
         (λ w h. rw eh (low_last v p (entry_of (get_or nx p 0)) hp w h)) em
 
     -- a step that takes a use
-    took_use : {s : Step} {hd' nx' made' : List ℕ} {u : ℕ} → length us ≤ 1024 → back last < 4096 → back last ≢ start → Went marked us hd nx (back last) last s hd' nx'
-        → cause_of s ≡ 0 → u ≡ use_of s → made' ≡ set made taken u → Along front back marked us hd' nx' made' sizes start from (taken + 1) n u
-    took_use {s} {hd'} {nx'} {made'} {u} fits small d (absent h e eh en) es us_is em = absurd (omega (arith, sym (ap cause_of e) ∙ es))
-    took_use {s} {hd'} {nx'} {made'} {u} fits small d (empty h e eh en) es us_is em = absurd (omega (arith, sym (ap cause_of e) ∙ es))
-    took_use {s} {hd'} {nx'} {made'} {u} fits small d (many p a b hp ha hb e eh en) es us_is em = absurd (omega (arith, sym (ap cause_of e) ∙ es))
-    took_use {s} {hd'} {nx'} {made'} {u} fits small d (one p hp hz e eh en) es us_is em =
+    took_use : {hd' nx' made' : List ℕ} {u : ℕ} → length us ≤ 1024 → back last < 4096 → back last ≢ start → Went marked us hd nx (back last) last (Ok u) hd' nx'
+        → made' ≡ set made taken u → Along front back marked us hd' nx' made' sizes start from (taken + 1) n u
+    took_use fits small d (absent h e eh en) em = cc
+    took_use fits small d (empty h e eh en) em = cc
+    took_use fits small d (many p a b hp ha hb e eh en) em = cc
+    took_use {hd'} {nx'} {made'} {u} fits small d (one p hp hz e eh en) em =
         let x : hd' ≡ set hd (back last) (entry_of (get_or nx p 0)) = eh ∙ sym (ap (λ (j : ℕ). set hd (back last) (entry_of j)) hz) in
-        along_last hd' nx' made' 0 u p (get_or us p 0 ∷ []) fits small d hp (one_only front us (length us) hd nx A.rest A.lists (back last) p hp hz) refl refl refl (us_is ∙ ap use_of e) x en em
-    took_use {s} {hd'} {nx'} {made'} {u} fits small d (second p a hp ha hz hm e eh en) es us_is em =
+        along_last hd' nx' made' 0 u p (get_or us p 0 ∷ []) fits small d hp (one_only front us (length us) hd nx A.rest A.lists (back last) p hp hz) refl refl refl (cc) x en em
+    took_use {hd'} {nx'} {made'} {u} fits small d (second p a hp ha hz hm e eh en) em =
         let x : hd' ≡ set hd (back last) (entry_of (get_or nx p 0)) = eh ∙ ap (λ (j : ℕ). set hd (back last) j) (sym (entry_some (get_or nx p 0) a ha)) in
         along_last hd' nx' made' 1 u p (get_or us a 0 ∷ get_or us p 0 ∷ []) fits small d hp (two front us (length us) hd nx A.rest A.lists (back last) p hp a ha hz)
-        (ap along (side_second (marked last) (marked (get_or us a 0)) hm)) refl refl (us_is ∙ ap use_of e) x en em
-    took_use {s} {hd'} {nx'} {made'} {u} fits small d (first p a hp ha hz hm e eh en) es us_is em =
+        (ap along (side_second (marked last) (marked (get_or us a 0)) hm)) refl refl (cc) x en em
+    took_use {hd'} {nx'} {made'} {u} fits small d (first p a hp ha hz hm e eh en) em =
         let v = back last in
         let L = A.lists in
-        let eu : u ≡ get_or us a 0 = us_is ∙ ap use_of e in
+        let eu : u ≡ get_or us a 0 = cc in
         along_go hd' nx' made' 0 u a (get_or us a 0 ∷ get_or us p 0 ∷ []) fits d (two front us (length us) hd nx A.rest L v p hp a ha hz)
         (ap along (side_first (marked last) (marked (get_or us a 0)) hm)) (omega arith) eu (below2 p a hp ha) eu
         (rw (eh, en) (lists_first front us (length us) hd nx A.rest L v p hp a ha hz fits))
@@ -251,30 +252,32 @@ module _ {front back : ℕ → ℕ} {marked : ℕ → Bool} {us : List ℕ} wher
         below2 : (p a : ℕ) → get_or hd (back last) 0 ≡ p + 2 → get_or nx p 0 ≡ a + 1 → a < length us
         below2 p a hp ha = omega (arith, A.lists.tables.nexts p)
 
-    pub along_on : {s : Step} {hd' nx' made' : List ℕ} {u v k : ℕ} → length us ≤ 1024 → back last < 4096 → v ≡ back last → v ≢ start → Went marked us hd nx v last s hd' nx'
-        → k ≡ cause_of s → k ≡ 0 → u ≡ use_of s → made' ≡ set made taken u → Along front back marked us hd' nx' made' sizes start from (taken + 1) n u
-    along_on fits small ev d w ek z eu em = took_use fits small (λ g. d (ev ∙ g)) (rw ev at w) (sym ek ∙ z) eu em
+    pub along_on : {hd' nx' made' : List ℕ} {u v : ℕ} → length us ≤ 1024 → back last < 4096 → v ≡ back last → v ≢ start → Went marked us hd nx v last (Ok u) hd' nx'
+        → made' ≡ set made taken u → Along front back marked us hd' nx' made' sizes start from (taken + 1) n u
+    along_on fits small ev d w em = took_use fits small (λ g. d (ev ∙ g)) (rw ev at w) em
 
     -- a step at which the walk stops
-    stopped : {s : Step} {hd' nx' : List ℕ} {r : Walked} (made' sizes' : List ℕ) (m t : ℕ) → back last ≢ start → Went marked us hd nx (back last) last s hd' nx' → cause_of s ≢ 0
-        → r ≡ walked_of (cause_of s) m t → Traced (walk front back marked us) (length us) made' sizes' r
-    unfolding Traced walked_of
-    stopped made' sizes' m t d (absent h e eh en) es er =
-        subst (λ (x : Walked). Traced (walk front back marked us) (length us) made' sizes' x) (sym (er ∙ ap (λ (x : Step). walked_of (cause_of x) m t) e))
+    stopped : {hd' nx' : List ℕ} {r : Refusal} (made' sizes' : List ℕ) → back last ≢ start → Went marked us hd nx (back last) last (Err r) hd' nx'
+        → Traced (walk front back marked us) (length us) made' sizes' (Err r)
+    unfolding Traced
+    stopped {hd'} {nx'} {r} made' sizes' d (absent h e eh en) =
+        let q : r ≡ DeadEnd = cc in
+        rw q
         (sym A.to ∙ going_refused front back marked start last A.rest (drop from (take taken made)) A.ws (length A.rest) 11 [] d
         (chain_none front us nx (length us) (back last) (get_or hd (back last) 0 - 1) (at front (back last) A.rest) (omega arith) (A.lists.chains (back last))) refl)
-    stopped made' sizes' m t d (empty h e eh en) es er = absurd (A.lists.dropped (back last) h)
-    stopped made' sizes' m t d (many p a b hp ha hb e eh en) es er =
-        subst (λ (x : Walked). Traced (walk front back marked us) (length us) made' sizes' x) (sym (er ∙ ap (λ (x : Step). walked_of (cause_of x) m t) e))
+    stopped made' sizes' d (empty h e eh en) = absurd (A.lists.dropped (back last) h)
+    stopped {hd'} {nx'} {r} made' sizes' d (many p a b hp ha hb e eh en) =
+        let q : r ≡ TooManyUses = cc in
+        rw q
         (sym A.to ∙ going_refused front back marked start last A.rest (drop from (take taken made)) A.ws (length A.rest) 12 (at front (back last) A.rest) d refl
         (many_refused marked (marked last) (at front (back last) A.rest) (three front us (length us) hd nx A.rest A.lists (back last) p hp a b ha hb)))
-    stopped made' sizes' m t d (one p hp hz e eh en) es er = absurd (es (ap cause_of e))
-    stopped made' sizes' m t d (second p a hp ha hz hm e eh en) es er = absurd (es (ap cause_of e))
-    stopped made' sizes' m t d (first p a hp ha hz hm e eh en) es er = absurd (es (ap cause_of e))
+    stopped made' sizes' d (one p hp hz e eh en) = cc
+    stopped made' sizes' d (second p a hp ha hz hm e eh en) = cc
+    stopped made' sizes' d (first p a hp ha hz hm e eh en) = cc
 
-    pub along_stop : {s : Step} {hd' nx' : List ℕ} {r : Walked} {v k j : ℕ} (made' sizes' : List ℕ) (m t : ℕ) → v ≡ back last → v ≢ start → Went marked us hd nx v last s hd' nx'
-        → k ≡ cause_of s → k ≢ 0 → j ≡ k → r ≡ walked_of j m t → Traced (walk front back marked us) (length us) made' sizes' r
-    along_stop made' sizes' m t ev d w ek ne ej er = stopped made' sizes' m t (λ g. d (ev ∙ g)) (rw ev at w) (λ g. ne (ek ∙ g)) (rw (ej, ek) at er)
+    pub along_stop : {hd' nx' : List ℕ} {r : Refusal} {v : ℕ} (made' sizes' : List ℕ) → v ≡ back last → v ≢ start → Went marked us hd nx v last (Err r) hd' nx'
+        → Traced (walk front back marked us) (length us) made' sizes' (Err r)
+    along_stop made' sizes' ev d w = stopped made' sizes' (λ g. d (ev ∙ g)) (rw ev at w)
 
     -- the wire is closed
     pub along_close : {sizes' : List ℕ} {v : ℕ} → length us ≤ 1024 → v ≡ back last → v ≡ start → sizes' ≡ set sizes n (taken - from)
@@ -308,12 +311,6 @@ module _ {en ds ms us : List ℕ} {edges : ℕ} (S : Sound en ds edges ms us) wh
   abbrev pub Going : (hd nx made sizes : List ℕ) (start from taken n last : ℕ) → Type 0
   Going = Along (front_of en ds edges) (back_of en ds edges) (marked_of ms) us
 
-  -- what the walk leaves: its answer over the buffers, whose lengths stay
-  abbrev pub Left : (made sizes : List ℕ) → Walked → Type 0
-  Left made sizes r =
-      Traced (walk (front_of en ds edges) (back_of en ds edges) (marked_of ms) us) (length us) made sizes r ×
-      ((length made ≡ 1024) × (length sizes ≡ 1024))
-
   -- the lists of all uses are made: no wire is made yet
   pub walk_begins : {hd nx made sizes : List ℕ} → length made ≡ 1024 → length sizes ≡ 1024
       → hd ≡ heads_after (front_of en ds edges) us (replicate 4096 0) (length us)
@@ -321,32 +318,39 @@ module _ {en ds ms us : List ℕ} {edges : ℕ} (S : Sound en ds edges ms us) wh
   walk_begins lm ls eh en = between_start
       (rw (eh, en) (lists_all _ us _ _ refl refl (zeros 4096) (zeros 1024) S.few (front_small S))) lm ls
 
+  -- a vertex with uses is found
+  pub wire_found : {hd nx made sizes : List ℕ} {start taken n : ℕ} (r : Option ℕ) → Made hd nx made sizes start taken n → taken ≢ length us
+      → Lowest hd (unwrap_or r 4096) → IsSome r
+  wire_found r B ne low = some r (between_some B (omega (arith, ne, B.count_is)) low)
+    where
+      some : (r : Option ℕ) → unwrap_or r 4096 < 4096 → IsSome r
+      some None h = absurd (omega arith)
+      some (Some v) h = refl
+
   -- a wire begins with the use that is popped
-  pub wire_begins : {hd nx made sizes hd' : List ℕ} {start taken n r u : ℕ} → Made hd nx made sizes start taken n → taken < length us
+  pub wire_begins : {hd nx made sizes hd' : List ℕ} {start taken n r u : ℕ} → Made hd nx made sizes start taken n → taken ≢ length us
       → Lowest hd r
       → u ≡ get_or us (get_or hd r 0 - 2) 0 → hd' ≡ set hd r (entry_of (get_or nx (get_or hd r 0 - 2) 0))
       → Going hd' nx (set made taken u) sizes r taken (taken + 1) n u
-  wire_begins B lt low eu eh = between_begin B lt S.few low eu eh refl
+  wire_begins B ne low eu eh = between_begin B (omega (arith, ne, B.count_is)) S.few low eu eh refl
 
   module _ {hd nx made sizes : List ℕ} {start from taken n last v : ℕ} (A : Going hd nx made sizes start from taken n last)
       (ev : v ≡ back_of en ds edges last) where
     -- it goes on with the step's use
-    pub wire_goes : {s : Step} {hd' nx' : List ℕ} {u k : ℕ} → v ≢ start → Went (marked_of ms) us hd nx v last s hd' nx'
-        → k ≡ cause_of s → k ≡ 0 → u ≡ use_of s → Going hd' nx' (set made taken u) sizes start from (taken + 1) n u
-    wire_goes d w ek z eu = along_on A S.few (back_small S A.place last A.place_lt A.last_at) ev d w ek z eu refl
+    pub wire_goes : {hd' nx' : List ℕ} {u : ℕ} → v ≢ start → Went (marked_of ms) us hd nx v last (Ok u) hd' nx'
+        → Going hd' nx' (set made taken u) sizes start from (taken + 1) n u
+    wire_goes d w = along_on A S.few (back_small S A.place last A.place_lt A.last_at) ev d w refl
 
     -- it is closed
     pub wire_closes : v ≡ start → Made hd nx made (set sizes n (taken - from)) start taken (n + 1)
     wire_closes vs = along_close A S.few ev vs refl
 
     -- a step stops the walk
-    pub walk_stops : {hd' nx' made' : List ℕ} {k j : ℕ} {s : Step} {r : Walked} (m t : ℕ) → v ≢ start
-        → Went (marked_of ms) us hd nx v last s hd' nx'
-        → k ≡ cause_of s → k ≢ 0 → made' ≡ made → j ≡ k → r ≡ walked_of j m t → Left made' sizes r
-    walk_stops m t d w ek ne em ej er = (along_stop A _ _ m t ev d w ek ne ej er, (rw em A.long_made, A.long_sizes))
+    pub walk_stops : {hd' nx' : List ℕ} {r : Refusal} → v ≢ start → Went (marked_of ms) us hd nx v last (Err r) hd' nx'
+        → Traced (walk (front_of en ds edges) (back_of en ds edges) (marked_of ms) us) (length us) made sizes (Err r)
+    walk_stops d w = along_stop A _ _ ev d w
 
   -- all uses are taken
-  pub walk_ends : {hd nx made made' sizes : List ℕ} {start taken n cause cause' taken' : ℕ} {r : Walked}
-      → Made hd nx made sizes start taken n → cause ≡ 0
-      → length us ≤ taken → made' ≡ made → cause' ≡ cause → taken' ≡ taken → r ≡ walked_of cause' n taken' → Left made' sizes r
-  walk_ends B z all em ec et er = (rw em (between_done B S.few all (rw (ec, z, et) at er)), (rw em B.long_made, B.long_sizes))
+  pub walk_ends : {hd nx made sizes : List ℕ} {start taken n : ℕ} → Made hd nx made sizes start taken n → taken ≡ length us
+      → Traced (walk (front_of en ds edges) (back_of en ds edges) (marked_of ms) us) (length us) made sizes (Ok (record { wires = n; uses = taken }))
+  walk_ends B all = between_done B S.few all

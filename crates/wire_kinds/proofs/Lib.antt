@@ -1,2 +1,1 @@
-pub mod Refused
 pub mod Sorting

@@ -5,17 +5,13 @@ use Rattle.std.specs.Float.Ieee.{lt, of_bits}
 use Rattle.floats.specs.Exact.{distance2_uv}
 use Rattle.compress.specs.declared.Uv.{Uv}
 use Rattle.compress.specs.Records.{pick}
-use Rattle.compress.specs.Refusals.{refusal_number}
 use Rattle.compress.specs.Said.{Said, result, none, refused, refused_or}
 use Rattle.compress.specs.Wires.{over}
 use Rattle.checks.specs.Causes.{lower_of, lowest_of, float_cause, uv_cause}
 use Rattle.compress.specs.Choice.{zero64}
 use Rattle.wire_kinds.specs.declared.BoundaryType.{BoundaryType}
 use Rattle.wire_kinds.specs.declared.BoundaryType.TheVariants.{Positive, Negative, NotClosed}
-use Rattle.wire_kinds.specs.declared.WireKind.{WireKind}
-use Rattle.wire_kinds.specs.declared.WireKind.TheVariants.{Is, NoKind}
-use Rattle.wire_kinds.specs.declared.Sorted.{Sorted}
-use Rattle.wire_kinds.specs.declared.Sorted.TheVariants.{Two, Nothing, Unsorted}
+use Rattle.wire_kinds.specs.declared.Ends.{Ends}
 
 -- the threshold on the squared distance of the ends, 1.0e-3
 abbrev pub closing : Float
@@ -31,12 +27,14 @@ boundary_type a b area = pick (is_closed a b) (pick (lt zero64 area) Positive Ne
 unfoldable pub kind_cause_of : Uv → Uv → Float → ℕ
 kind_cause_of a b area = lower_of (uv_cause a) (lower_of (uv_cause b) (float_cause area))
 
-abbrev pub said_kind : WireKind → Said BoundaryType
-said_kind (Is k) = result k
-said_kind (NoKind r) = refused (refusal_number r)
-
 unfoldable pub boundary_type_said : Uv → Uv → Float → Said BoundaryType
 boundary_type_said a b area = refused_or (kind_cause_of a b area) (result (boundary_type a b area))
+
+-- the number of a kind of wire, as a host is told it
+abbrev pub boundary_number : BoundaryType → ℕ
+boundary_number Positive = 0
+boundary_number Negative = 1
+boundary_number NotClosed = 2
 
 -- ---- the sorting of wires: a row of five floats for each, first point, last point and area
 
@@ -45,6 +43,9 @@ first_point fs i = record { u = get_or fs (i * 5) nan; v = get_or fs (i * 5 + 1)
 
 abbrev pub last_point : List Float → ℕ → Uv
 last_point fs i = record { u = get_or fs (i * 5 + 2) nan; v = get_or fs (i * 5 + 3) nan }
+
+abbrev pub ends_at : List Float → ℕ → Ends
+ends_at fs i = record { first = first_point fs i; last = last_point fs i; area = get_or fs (i * 5 + 4) nan }
 
 unfoldable pub type_at : List Float → ℕ → BoundaryType
 type_at fs i = boundary_type (first_point fs i) (last_point fs i) (get_or fs (i * 5 + 4) nan)
@@ -77,11 +78,6 @@ pub record SortOutcome : Type 0 where
   pub said : Said ℕ
   pub opens : List ℕ
   pub closed : List ℕ
-
-abbrev pub said_sorted : Sorted → Said ℕ
-said_sorted (Two k) = result k
-said_sorted Nothing = none
-said_sorted (Unsorted r) = refused (refusal_number r)
 
 -- nothing lent is changed
 abbrev pub unsorted : Said ℕ → List ℕ → List ℕ → SortOutcome

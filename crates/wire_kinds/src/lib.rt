@@ -1,29 +1,38 @@
 // Document 000, `split_closed_faces.rs`: kind of wire, sorting of wires.
 #![tactic(auto)]
 
-ghost use Rattle.std.specs.Prelude.{◌≡◌, [], ◌∷◌, ◌+◌, ◌*◌, ◌≤◌, ◌<◌, length, take};
-ghost use Rattle.std.proofs.lemmas.List.Edits.{sets};
-ghost use Rattle.wire_kinds.specs.Kinds.{is_closed, boundary_type, kind_cause_of, said_kind, boundary_type_said, type_at, type_cause_at, is_open, same, is_wanted, wanted_below, sort_cause, said_sorted, unsorted, sort_wires};
-ghost use Rattle.checks.specs.Causes.{lowest_of};
-ghost use Rattle.compress.specs.Records.{pick};
+ghost use Rattle.std.specs.Prelude.{◌≡◌, true, false, ◌+◌, ◌-◌, ◌*◌, ◌≤◌, length, take};
+ghost use Rattle.compress.specs.Refusals.{cause_of};
+ghost use Rattle.compress.specs.Said.{said_of, said_if};
+ghost use Rattle.wire_kinds.specs.Kinds.{boundary_number, is_closed, boundary_type, kind_cause_of, boundary_type_said, ends_at, type_at, is_open, wanted_below, sort_cause, unsorted, sort_wires};
 
-use compress::{Refusal, Uv};
+use compress::{Checked, Refusal, Uv};
 
 // ---- kind of wire
 
 // `BoundaryType`.
-#[derive(Clone, Copy)]
+#[derive(Clone, Copy, PartialEq, Eq)]
 pub enum BoundaryType {
-    Positive,
-    Negative,
-    NotClosed,
+    Positive = 0,
+    Negative = 1,
+    NotClosed = 2,
 }
 
-// The answer of the kind of wire.
+// The number of a kind of wire, as a host is told it.
+impl From<BoundaryType> for u32 {
+    ghost from_gives = { λ t n. n ≡ boundary_number t };
+
+    fn from(t: BoundaryType) -> u32 {
+        t as u32
+    }
+}
+
+// The first point, the last point and the area of a wire.
 #[derive(Clone, Copy)]
-pub enum WireKind {
-    Is(BoundaryType),
-    NoKind(Refusal),
+struct Ends {
+    first: Uv,
+    last: Uv,
+    area: f64,
 }
 
 // Squared distances of the ends below this are closed.
@@ -35,181 +44,137 @@ fn is_closed(a: Uv, b: Uv) -> bool
     floats::distance2_uv(a.u, a.v, b.u, b.v) < CLOSING
 }
 
-fn kind_of(a: Uv, b: Uv, area: f64) -> BoundaryType
-    ensures { result ≡ boundary_type a b area }
+fn kind_of(wire: Ends) -> BoundaryType
+    ensures { result ≡ boundary_type wire.first wire.last wire.area }
 {
-    if is_closed(a, b) {
-        if area > 0.0 {
-            return BoundaryType::Positive;
-        }
-        return BoundaryType::Negative;
+    if !is_closed(wire.first, wire.last) {
+        BoundaryType::NotClosed
+    } else if wire.area > 0.0 {
+        BoundaryType::Positive
+    } else {
+        BoundaryType::Negative
     }
-    BoundaryType::NotClosed
 }
 
-fn kind_cause(a: Uv, b: Uv, area: f64) -> u32
-    ensures { result ≡ kind_cause_of a b area }
+fn kind_cause(wire: Ends) -> Checked
+    ensures { cause_of result ≡ kind_cause_of wire.first wire.last wire.area }
 {
     checks::lower(
-        checks::uv(a),
-        checks::lower(checks::uv(b), checks::float(area)),
+        checks::uv(wire.first),
+        checks::lower(checks::uv(wire.last), checks::float(wire.area)),
     )
 }
 
 // `boundary_type` of a wire, from its first point, its last point and its area.
-pub fn boundary_type(a: Uv, b: Uv, area: f64) -> WireKind
-    ensures { said_kind result ≡ boundary_type_said a b area }
+pub fn boundary_type(a: Uv, b: Uv, area: f64) -> Result<BoundaryType, Refusal>
+    ensures { said_of (λ t. t) result ≡ boundary_type_said a b area }
 {
-    let cause = kind_cause(a, b, area);
-    if cause != 0 {
-        return WireKind::NoKind(compress::refusal_of(cause));
-    }
-    WireKind::Is(kind_of(a, b, area))
+    let wire = Ends {
+        first: a,
+        last: b,
+        area,
+    };
+    kind_cause(wire)?;
+    Ok(kind_of(wire))
 }
 
-// The answer of the sorting of wires: how many are closed, or "none".
-#[derive(Clone, Copy)]
-pub enum Sorted {
-    Two(usize),
-    Nothing,
-    Unsorted(Refusal),
-}
+// ---- sorting of wires
 
-// Rows of `ends`: the first point, the last point and the area of a wire.
-fn type_at(ends: &[f64], i: usize) -> BoundaryType
+// The wire of row i.
+fn ends_at(ends: &[f64], i: usize) -> Ends
     requires { i * 5 + 5 ≤ length ends.now }
-    ensures { result ≡ type_at ends.now i }
+    ensures { result ≡ ends_at ends.now i }
 {
     let a = i * 5;
-    let p = Uv {
+    let first = Uv {
         u: ends[a],
         v: ends[a + 1],
     };
-    let q = Uv {
+    let last = Uv {
         u: ends[a + 2],
         v: ends[a + 3],
     };
-    kind_of(p, q, ends[a + 4])
+    Ends {
+        first,
+        last,
+        area: ends[a + 4],
+    }
 }
 
-fn type_cause_at(ends: &[f64], i: usize) -> u32
+fn sort_cause(ends: &[f64], wires: usize) -> Checked
+    ensures { cause_of result ≡ sort_cause ends.now wires }
+{
+    if wires > 64 || ends.len() < wires * 5 {
+        return Err(Refusal::Malformed);
+    }
+    checks::lowest_cause(wires, |i| kind_cause(ends_at(ends, i)))
+}
+
+// Wire i is open.
+fn is_open(ends: &[f64], i: usize) -> bool
     requires { i * 5 + 5 ≤ length ends.now }
-    ensures { result ≡ type_cause_at ends.now i }
+    ensures { result ≡ is_open (type_at ends.now i) }
 {
-    let a = i * 5;
-    let p = Uv {
-        u: ends[a],
-        v: ends[a + 1],
-    };
-    let q = Uv {
-        u: ends[a + 2],
-        v: ends[a + 3],
-    };
-    kind_cause(p, q, ends[a + 4])
+    kind_of(ends_at(ends, i)) == BoundaryType::NotClosed
 }
 
-fn type_causes(ends: &[f64], wires: usize) -> u32
-    requires { wires * 5 ≤ length ends.now }
-    ensures { result ≡ lowest_of (type_cause_at ends.now) wires }
+// The numbers of the open wires, and of the closed ones, both in order, to the front of their slices; how many are open.
+fn gather(ends: &[f64], wires: usize, opens: &mut [u32], closed: &mut [u32]) -> usize
+    requires wires_in { (wires ≤ 64) × (wires * 5 ≤ length ends.now) }
+    requires room { (wires ≤ length opens.old) × (wires ≤ length closed.old) }
+    ensures at_most { result ≤ wires }
+    ensures open_count { result ≡ length (wanted_below ends.now true wires) }
+    ensures closed_count { wires - result ≡ length (wanted_below ends.now false wires) }
+    ensures opens_after { take result opens.new ≡ wanted_below ends.now true wires }
+    ensures closed_after { take (wires - result) closed.new ≡ wanted_below ends.now false wires }
 {
-    let mut least: u32 = 0;
-    for i in 0..wires {
-        least = checks::lower(least, type_cause_at(ends, i));
-    }
-    least
-}
-
-fn sort_cause(ends: &[f64], wires: usize) -> u32
-    ensures { result ≡ sort_cause ends.now wires }
-{
-    if wires > 64 {
-        return 1;
-    }
-    if ends.len() < wires * 5 {
-        return 1;
-    }
-    type_causes(ends, wires)
-}
-
-fn is_open(t: BoundaryType) -> bool
-    ensures { result ≡ is_open t }
-{
-    match t {
-        BoundaryType::Positive => false,
-        BoundaryType::Negative => false,
-        BoundaryType::NotClosed => true,
-    }
-}
-
-fn is_same(a: bool, b: bool) -> bool
-    ensures { result ≡ same a b }
-{
-    if a { b } else { !b }
-}
-
-// Wire i is open, or is closed, as asked for.
-fn is_wanted(ends: &[f64], asked: bool, i: usize) -> bool
-    requires { i * 5 + 5 ≤ length ends.now }
-    ensures { result ≡ is_wanted ends.now asked i }
-{
-    is_same(is_open(type_at(ends, i)), asked)
-}
-
-// x is written at `at` where the test holds, and the place after it is the answer.
-fn put_if(test: bool, out: &mut [u32], at: usize, x: u32) -> usize
-    requires { at < length out.old }
-    ensures { (result ≡ at + length (pick test (x ∷ []) [])) × (out.new ≡ sets out.old at (pick test (x ∷ []) [])) }
-{
-    if test {
-        out[at] = x;
-        return at + 1;
-    }
-    at
-}
-
-// The numbers of the wires that are open, or of those that are closed, in order; how many there are.
-fn gather(ends: &[f64], wires: usize, asked: bool, out: &mut [u32]) -> usize
-    requires { (wires ≤ 64) × (wires * 5 ≤ length ends.now) × (wires ≤ length out.old) }
-    ensures { (take result out.new ≡ wanted_below ends.now asked wires) × (result ≡ length (wanted_below ends.now asked wires)) }
-{
-    let mut i: usize = 0;
+    // How many are open, and so the place of the next one; i - at are closed.
     let mut at: usize = 0;
-    while i < wires {
-        at = put_if(is_wanted(ends, asked, i), out, at, i as u32);
-        i += 1;
+    for i in 0..wires {
+        if is_open(ends, i) {
+            opens[at] = i as u32;
+            at += 1;
+        } else {
+            closed[i - at] = i as u32;
+        }
     }
     at
 }
 
-fn sort_checked(ends: &[f64], wires: usize, opens: &mut [u32], closed: &mut [u32]) -> Sorted
+fn sort_checked(
+    ends: &[f64],
+    wires: usize,
+    opens: &mut [u32],
+    closed: &mut [u32],
+) -> Result<Option<usize>, Refusal>
     requires { sort_cause ends.now wires ≡ 0 }
-    ensures { unsorted (said_sorted result) opens.new closed.new ≡ sort_wires ends.now wires opens.old closed.old }
+    ensures { unsorted (said_if (λ n. n) result) opens.new closed.new ≡ sort_wires ends.now wires opens.old closed.old }
 {
     let mut found = [0u32; 64];
     let mut rest = [0u32; 64];
-    let n = gather(ends, wires, true, &mut found);
-    let k = gather(ends, wires, false, &mut rest);
+    let n = gather(ends, wires, &mut found, &mut rest);
+    let k = wires - n;
     if n != 2 {
-        return Sorted::Nothing;
+        return Ok(None);
     }
-    if opens.len() < 2 {
-        return Sorted::Unsorted(Refusal::NoRoom);
+    if opens.len() < 2 || closed.len() < k {
+        return Err(Refusal::NoRoom);
     }
-    if closed.len() < k {
-        return Sorted::Unsorted(Refusal::NoRoom);
-    }
-    rows::copy(&found, 2, opens);
-    rows::copy(&rest, k, closed);
-    Sorted::Two(k)
+    opens[..2].copy_from_slice(&found[..2]);
+    closed[..k].copy_from_slice(&rest[..k]);
+    Ok(Some(k))
 }
 
-// The sorting of wires: the numbers of the two open ones, and of the closed ones, both in given order.
-pub fn sort_wires(ends: &[f64], wires: usize, opens: &mut [u32], closed: &mut [u32]) -> Sorted
-    ensures { unsorted (said_sorted result) opens.new closed.new ≡ sort_wires ends.now wires opens.old closed.old }
+// The sorting of wires: the numbers of the two open ones, and of the closed ones, both in given order. The answer is how many are closed,
+// or "none".
+pub fn sort_wires(
+    ends: &[f64],
+    wires: usize,
+    opens: &mut [u32],
+    closed: &mut [u32],
+) -> Result<Option<usize>, Refusal>
+    ensures { unsorted (said_if (λ n. n) result) opens.new closed.new ≡ sort_wires ends.now wires opens.old closed.old }
 {
-    let cause = sort_cause(ends, wires);
-    if cause != 0 {
-        return Sorted::Unsorted(compress::refusal_of(cause));
-    }
+    sort_cause(ends, wires)?;
     sort_checked(ends, wires, opens, closed)
 }

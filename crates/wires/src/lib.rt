@@ -21,11 +21,9 @@ pub fn copy_wires(made: &[u32], sizes: &[u32], n: usize, out: &mut [u32])
     ensures { out.new ≡ take (total (take n sizes.now)) made.now ++ drop (total (take n sizes.now)) out.old }
 {
     let mut at: usize = 0;
-    let mut k: usize = 0;
-    while k < n {
+    for k in 0..n {
         let size = sizes[k] as usize;
         rows::copy(&made[at..], size, &mut out[at..]);
         at += size;
-        k += 1;
     }
 }

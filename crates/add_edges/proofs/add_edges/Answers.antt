@@ -22,21 +22,6 @@ overflow_add-m c =
       c.requires.edge_numbers,
     )
 
-pub overflow_add-i : goal.overflow_add-i
-overflow_add-i c =
-    omega (
-      arith,
-      c.loop-i-test.true,
-      c.ranges.edges,
-    )
-
-pub loop-i-smaller : goal.loop-i-smaller
-loop-i-smaller c =
-    omega (
-      arith,
-      c.loop-i-test.true,
-    )
-
 pub shape_of-vertex_numbers : goal.shape_of-vertex_numbers
 shape_of-vertex_numbers c = omega (arith, c.loop-i.invariant)
 

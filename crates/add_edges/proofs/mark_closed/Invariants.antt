@@ -1,9 +1,5 @@
-use Prim.Native.Nat.{◌-◌}
 use Rattle.add_edges.proofs.Marking.{Marking}
 use Rattle.add_edges.proofs.mark_closed.Given as goal
 
 abbrev pub invariant-loop-i : goal.invariant-loop-i
 invariant-loop-i l = Marking l.edges l.numbers l.initial.added l.added l.i l.m
-
-abbrev pub decreases-loop-i : goal.decreases-loop-i
-decreases-loop-i l = l.edges - l.i

@@ -1,20 +1,15 @@
-use borrow.Author.Tests.{eq-eqb, ne_eqb}
-use native.Mathlib.Omega.{arith}
-use Rattle.checks.specs.Causes.{lower_of}
+use Rattle.std.proofs.Common.{rules}
+use Rattle.checks.proofs.Lowest.{lower_first, lower_last, lower_refusals}
 use Rattle.checks.proofs.lower.Goals as goal
 
-pub returns-then-a-eq0 : goal.returns-then-a-eq0
-unfolding lower_of
-returns-then-a-eq0 c = simp (eq-eqb _ _ c.if-a-eq0.true)
+pub returns-then-lt : goal.returns-then-lt
+returns-then-lt c = let a = c.in-Err-Err in rw (a.is-0, a.is-1) (lower_refusals a.x a.y _ (search rules))
 
-pub returns-then-b-eq0 : goal.returns-then-b-eq0
-unfolding lower_of
-returns-then-b-eq0 c = simp (ne_eqb _ _ c.if-a-eq0.false, eq-eqb _ _ c.if-b-eq0.true)
+pub returns-else-lt : goal.returns-else-lt
+returns-else-lt c = let a = c.in-Err-Err in rw (a.is-0, a.is-1) (lower_refusals a.x a.y _ (search rules))
 
-pub returns-then-a-b : goal.returns-then-a-b
-unfolding lower_of
-returns-then-a-b c = simp (ne_eqb _ _ c.if-a-eq0.false, ne_eqb _ _ c.if-b-eq0.false) (omega arith)
+pub returns-in-Err-Ok : goal.returns-in-Err-Ok
+returns-in-Err-Ok c = let a = c.in-Err-Ok in rw (a.is-0, a.is-1, lower_last)
 
-pub returns-else-a-b : goal.returns-else-a-b
-unfolding lower_of
-returns-else-a-b c = simp (ne_eqb _ _ c.if-a-eq0.false, ne_eqb _ _ c.if-b-eq0.false) (omega arith)
+pub returns-in-Ok-default : goal.returns-in-Ok-default
+returns-in-Ok-default c = rw (c.in-Ok-default.is-0, lower_first)

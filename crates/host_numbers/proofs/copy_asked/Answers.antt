@@ -1,11 +1,15 @@
-use Rattle.host_numbers.specs.Numbers.{host_copy}
-use Rattle.host_numbers.proofs.Periods.{asked_known, asked_unknown}
+use Rattle.compress.proofs.Refused.{exit_is}
+use Rattle.host_numbers.specs.Numbers.{host_copy_along, host_copy}
 use Rattle.host_numbers.proofs.copy_asked.Goals as goal
 
-pub returns-in-Known : goal.returns-in-Known
+pub returns-in_err-up : goal.returns-in_err-up
 unfolding host_copy
-returns-in-Known c = asked_known _ c.period_of.ensures c.in-Known.is c.copy_known.ensures
+returns-in_err-up c = rw (exit_is _ _ c.from_residual.ensures.1, ← c.in_err-up.ensures)
 
-pub returns-in-Unknown : goal.returns-in-Unknown
-unfolding host_copy
-returns-in-Unknown c = asked_unknown _ c.period_of.ensures c.in-Unknown.is
+pub returns-in_err-vp : goal.returns-in_err-vp
+unfolding host_copy host_copy_along
+returns-in_err-vp c = rw (exit_is _ _ c.from_residual-in_err-vp.ensures.1, ← c.in_ok-up.ensures, ← c.in_err-vp.ensures)
+
+pub returns : goal.returns
+unfolding host_copy host_copy_along
+returns c = rw (← c.in_ok-up.ensures, ← c.in_ok-vp.ensures) c.nearest_copy.ensures

@@ -1,3 +1,4 @@
+use Rattle.std.proofs.Common.{arith}
 use borrow.Author.Tests.{ne_eqb}
 use Rattle.host_numbers.specs.Numbers.{period_said}
 use Rattle.host_numbers.proofs.period_of.Goals as goal
@@ -12,4 +13,4 @@ returns-in-1 c = rw c.in-1.is
 
 pub returns-in_default : goal.returns-in_default
 unfolding period_said
-returns-in_default c = simp (ne_eqb _ _ c.in_default.in_default-own.rest.0.1, ne_eqb _ _ c.in_default.in_default-own.rest.1)
+returns-in_default c = simp (ne_eqb c.args.kind 0 (omega arith), ne_eqb c.args.kind 1 (omega arith))

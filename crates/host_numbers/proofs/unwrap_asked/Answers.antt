@@ -1,11 +1,11 @@
+use Rattle.compress.proofs.Refused.{exit_is}
 use Rattle.host_numbers.specs.Numbers.{host_mindiff}
-use Rattle.host_numbers.proofs.Periods.{asked_known, asked_unknown}
 use Rattle.host_numbers.proofs.unwrap_asked.Goals as goal
 
-pub returns-in-Known : goal.returns-in-Known
+pub returns-in_err-period : goal.returns-in_err-period
 unfolding host_mindiff
-returns-in-Known c = asked_known _ c.period_of.ensures c.in-Known.is c.get_mindiff.ensures
+returns-in_err-period c = rw (exit_is _ _ c.from_residual.ensures.1, ← c.in_err-period.ensures)
 
-pub returns-in-Unknown : goal.returns-in-Unknown
+pub returns : goal.returns
 unfolding host_mindiff
-returns-in-Unknown c = asked_unknown _ c.period_of.ensures c.in-Unknown.is
+returns c = rw (← c.in_ok-period.ensures) c.get_mindiff.ensures

@@ -3,6 +3,7 @@ use native.Mathlib.Omega.{arith}
 use lib.ListN.{take}
 use lib.Seq.{length-take-le}
 use Rattle.compress.specs.Rows.{edge_at}
+use Rattle.compress.proofs.Refused.{exit_is}
 use Rattle.compress.specs.Wires.{wires_of}
 use Rattle.wires.specs.Turn.{turned}
 use Rattle.joined.specs.Outcome.{join_leaves}
@@ -52,9 +53,10 @@ replace_wire-requires c =
     let l = length-take-le c.lay_joined-n.result c.lay_joined-n.new.out (omega (arith, c.lay_joined-n.ensures.out_after.1, c.lay_joined-n.auto.out)) in
     (c.requires.0.lies, c.if-w-wires.false, omega (arith, l, c.lay_joined-n.ensures.out_after.1))
 
-pub returns : goal.returns
-returns c =
-    call_stored c.requires.0 c.args.i c.args.v0 c.args.v1
+pub returns-in_err-count : goal.returns-in_err-count
+returns-in_err-count c =
+    rw (exit_is _ _ c.from_residual.ensures.1)
+    (rw c.in_err-count.was at (call_stored c.requires.0 c.args.i c.args.v0 c.args.v1
     c.find_index-j.ensures
     c.if-j-second.false
     c.find_wire-w.ensures
@@ -62,4 +64,16 @@ returns c =
     c.total_uses-from.ensures _ _
     c.lay_joined-n.ensures.out_after.0
     c.replace_wire.ensures
-    c.if-n-eq0.false
+    c.if-n-eq0.false))
+
+pub returns : goal.returns
+returns c =
+    rw c.in_ok-count.was at (call_stored c.requires.0 c.args.i c.args.v0 c.args.v1
+    c.find_index-j.ensures
+    c.if-j-second.false
+    c.find_wire-w.ensures
+    c.if-w-wires.false
+    c.total_uses-from.ensures _ _
+    c.lay_joined-n.ensures.out_after.0
+    c.replace_wire.ensures
+    c.if-n-eq0.false)

@@ -1,10 +1,6 @@
-use Prim.Native.Nat.{◌-◌}
-use lib.ListN.{length}
-use Rattle.loops.proofs.Search.{Forgetting}
+use Rattle.std.proofs.Common.{◌≡◌, drop}
+use Rattle.loops.specs.Loop.{forgotten}
 use Rattle.loops.proofs.forget.Given as goal
 
-abbrev pub invariant-loop-k : goal.invariant-loop-k
-invariant-loop-k l = Forgetting l.wire l.from l.initial.places l.places l.k
-
-abbrev pub decreases-loop-k : goal.decreases-loop-k
-decreases-loop-k l = length l.wire - l.k
+abbrev pub invariant-loop-u : goal.invariant-loop-u
+invariant-loop-u l = forgotten (drop l.u-index l.u-items) l.places ≡ forgotten l.u-items l.initial.places

@@ -1,10 +1,6 @@
-use Prim.Native.Nat.{◌-◌}
-use lib.ListN.{length}
-use Rattle.marks.proofs.Marks.{Counting}
+use Rattle.std.proofs.Common.{◌≡◌, ℕ, ◌<◌, length, get_or, take}
+use Rattle.marks.specs.Marks.{occurs}
 use Rattle.marks.proofs.duplicated_edges.Given as goal
 
-abbrev pub invariant-loop-i : goal.invariant-loop-i
-invariant-loop-i l = Counting l.face l.initial.marks l.marks l.i
-
-abbrev pub decreases-loop-i : goal.decreases-loop-i
-decreases-loop-i l = length l.face - l.i
+abbrev pub invariant-loop-u : goal.invariant-loop-u
+invariant-loop-u l = (k : ℕ) → k < length l.initial.marks → get_or l.marks k 0 ≡ occurs k (take l.u-index l.face)

@@ -60,17 +60,6 @@ bounds-out_lengths-w c =
       c.loop-w.invariant.same_ol,
     )
 
-pub overflow_add-w : goal.overflow_add-w
-overflow_add-w c =
-    omega (
-      arith,
-      c.loop-w-test.true,
-      c.ranges.wires,
-    )
-
-pub loop-w-smaller : goal.loop-w-smaller
-loop-w-smaller c = omega (arith, c.loop-w-test.true)
-
 pub shape_of-out : goal.shape_of-out
 shape_of-out c = omega (arith, c.loop-w.invariant)
 

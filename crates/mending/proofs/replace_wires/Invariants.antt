@@ -1,9 +1,5 @@
-use Prim.Native.Nat.{◌-◌}
 use Rattle.mending.proofs.Wiring.{Wiring}
 use Rattle.mending.proofs.replace_wires.Given as goal
 
 abbrev pub invariant-loop-w : goal.invariant-loop-w
 invariant-loop-w l = Wiring l.uses l.lengths l.wires l.added l.initial.out l.initial.out_lengths l.out l.out_lengths l.w l.from l.at
-
-abbrev pub decreases-loop-w : goal.decreases-loop-w
-decreases-loop-w l = l.wires - l.w

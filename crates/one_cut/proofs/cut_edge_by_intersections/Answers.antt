@@ -1,20 +1,15 @@
-use Rattle.cutting.specs.Contract.{lent_of}
-use Rattle.one_cut.proofs.Outcome.{asked_is, asked_once}
+use mathlib.Core.Path.{◌∙◌}
+use Rattle.cutting.proofs.Outcome.{accepted}
+use Rattle.one_cut.proofs.Outcome.{asked_is, call_left}
 use Rattle.one_cut.proofs.cut_edge_by_intersections.Goals as goal
 
-pub cut_checked-requires : goal.cut_checked-requires
-cut_checked-requires c =
-    let a = c.args in
-    let h = asked_is (lent_of a.vertex_numbers.now a.vertex_floats.now a.edge_numbers.now a.edge_floats.now a.uses.now
-    a.lengths.now
-    a.vertices a.edges a.wires) a.edge a.cuts.now a.count c.in-Once.is c.judge-asked.ensures in
-    (h.0, h.1)
+pub total_uses-requires : goal.total_uses-requires
+total_uses-requires c =
+    let h = asked_is _ c.args.edge c.args.cuts.now c.args.count c.in_ok-asked.was c.in_default.is c.judge.ensures in
+    let A = accepted _ _ _ _ _ _ _ _ _ h.0 in
+    (A.wires.below, A.wires.lengths)
 
-pub returns-in-Answer : goal.returns-in-Answer
-returns-in-Answer c = rw c.in-Answer.is at c.judge-asked.ensures
-
-pub returns-in-Once : goal.returns-in-Once
-returns-in-Once c =
-    let a = c.args in
-    asked_once (lent_of a.vertex_numbers.now a.vertex_floats.now a.edge_numbers.now a.edge_floats.now a.uses.now a.lengths.now
-    a.vertices a.edges a.wires) a.edge a.cuts.now a.count c.in-Once.is c.judge-asked.ensures c.cut_checked.ensures
+pub returns-in_default : goal.returns-in_default
+returns-in_default c =
+    let h = asked_is _ c.args.edge c.args.cuts.now c.args.count c.in_ok-asked.was c.in_default.is c.judge.ensures in
+    call_left _ _ _ _ _ _ _ _ _ c.args.edge c.args.cuts.now c.args.count h.0 _ c.total_uses.ensures ∙ h.1

@@ -1,9 +1,7 @@
-use mathlib.Core.Path.{sym}
-use native.Mathlib.Omega.{arith}
-use lib.Ieee.{nan, div, of_bits}
-use lib.ListN.{get_or-eq_default}
+use Rattle.std.proofs.Common.{arith}
+use lib.Ieee.{nan, of_bits}
 use Rattle.one_cut.proofs.float_at.Goals as goal
 
 pub returns : goal.returns
-unfolding div of_bits
-returns c = sym (get_or-eq_default c.args.floats.now nan {n = c.args.i} (omega arith))
+unfolding of_bits
+returns c = rw (c.unwrap_or.ensures, c.copied.ensures) (c.get.ensures.lookup.4 (omega arith) nan)

@@ -1,4 +1,8 @@
+use Rattle.std.proofs.Common.{rules}
+use Rattle.std.proofs.lemmas.Grind.{common_steps}
+use Rattle.periodic.specs.Unwrap.{nearest_of}
 use Rattle.periodic.proofs.first_nearest.Goals as goal
 
 pub returns : goal.returns
-returns c = rw (c.nearer-4.ensures, c.nearer-3.ensures, c.nearer-2.ensures, c.nearer.ensures)
+unfolding nearest_of
+returns c = search (rules, common_steps)

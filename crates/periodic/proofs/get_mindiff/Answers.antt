@@ -1,12 +1,11 @@
-use Rattle.checks.proofs.Small.{refuses, answers}
+use Rattle.compress.proofs.Refused.{exit_is, said_refused, said_checked}
 use Rattle.periodic.specs.Unwrap.{get_mindiff}
-use Rattle.periodic.proofs.Refused.{unwrap_cause_small}
 use Rattle.periodic.proofs.get_mindiff.Goals as goal
 
-pub returns-then-cause-ne0 : goal.returns-then-cause-ne0
+pub returns-in_err-unwrap_cause : goal.returns-in_err-unwrap_cause
 unfolding get_mindiff
-returns-then-cause-ne0 c = refuses _ _ _ c.unwrap_cause-cause.ensures _ c.refusal_of.ensures (unwrap_cause_small _ _ _) c.if-cause-ne0.true
+returns-in_err-unwrap_cause c = rw (exit_is _ _ c.from_residual.ensures.1) (said_refused _ _ _ c.in_err-unwrap_cause.ensures)
 
 pub returns : goal.returns
 unfolding get_mindiff
-returns c = rw c.unwrap.ensures (answers _ _ _ c.unwrap_cause-cause.ensures c.if-cause-ne0.false)
+returns c = rw c.unwrap.ensures (said_checked _ _ c.in_ok-unwrap_cause.ensures)

@@ -1,10 +1,10 @@
+use Rattle.std.proofs.Common.{rules, ◌∙◌}
 use Rattle.compress.specs.Choice.{smaller}
-use Rattle.periodic.specs.Copies.{from}
-use Rattle.periodic.proofs.Choices.{four_steps}
+use Rattle.periodic.specs.Copies.{from, shifted, later_shifts}
+use Rattle.periodic.proofs.Copies.{best_along}
 use Rattle.periodic.proofs.later_along.Goals as goal
 
-pub returns-in-Every : goal.returns-in-Every
-returns-in-Every c =
-    rw c.in-Every.is
-    (four_steps (smaller (from c.args.p)) c.args.best _ _ _ _ _ _ _ _ _ _ _ _ c.closer-a.ensures c.closer-b.ensures c.closer-c.ensures c.closer.ensures
-    c.shift.ensures c.shift-in-Every.ensures c.shift-in-Every-2.ensures c.shift-in-Every-3.ensures)
+pub returns : goal.returns
+returns c =
+    let a = c.args in
+    c.over_later.ensures (λ best dv. smaller (from a.p) best (shifted a.q a.du dv)) (λ b d r h. search rules) ∙ best_along (smaller (from a.p)) a.q a.du (later_shifts a.vp) a.best

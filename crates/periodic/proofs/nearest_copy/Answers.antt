@@ -1,12 +1,11 @@
-use Rattle.checks.proofs.Small.{refuses, answers}
+use Rattle.compress.proofs.Refused.{exit_is, said_refused, said_checked}
 use Rattle.periodic.specs.Copies.{nearest_copy_said}
-use Rattle.periodic.proofs.Refused.{copy_cause_small}
 use Rattle.periodic.proofs.nearest_copy.Goals as goal
 
-pub returns-then-cause-ne0 : goal.returns-then-cause-ne0
+pub returns-in_err-copy_cause : goal.returns-in_err-copy_cause
 unfolding nearest_copy_said
-returns-then-cause-ne0 c = refuses _ _ _ c.copy_cause-cause.ensures _ c.refusal_of.ensures (copy_cause_small _ _ _ _) c.if-cause-ne0.true
+returns-in_err-copy_cause c = rw (exit_is _ _ c.from_residual.ensures.1) (said_refused _ _ _ c.in_err-copy_cause.ensures)
 
 pub returns : goal.returns
 unfolding nearest_copy_said
-returns c = rw c.copy_nearest.ensures (answers _ _ _ c.copy_cause-cause.ensures c.if-cause-ne0.false)
+returns c = rw c.copy_nearest.ensures (said_checked _ _ c.in_ok-copy_cause.ensures)

@@ -1,14 +1,21 @@
-use lib.Ieee.{binary64, mul, neg}
-use Rattle.floats.specs.Exact.{two}
-use Rattle.compress.specs.Choice.{zero64, smaller}
-use Rattle.periodic.specs.Copies.{copies_along, shifts_of, from}
-use Rattle.periodic.proofs.Choices.{four_parts}
+use Rattle.std.proofs.Common.{◌≡◌, Some, refl, arith}
+use Rattle.std.specs.Float.{nan}
+use Rattle.periodic.specs.Copies.{later_shifts}
+use Rattle.periodic.proofs.Choices.{foldl_turn}
 use Rattle.periodic.proofs.over_later.Goals as goal
 
-pub returns-in-Every : goal.returns-in-Every
-returns-in-Every c =
-    let q = c.args.q in
-    let v = shifts_of c.args.vp in
-    let s = c.in-Every.s in
-    rw c.in-Every.is
-    (four_parts (smaller (from c.args.p)) (copies_along q (neg s) v) (copies_along q zero64 v) (copies_along q s v) (copies_along q (mul binary64 two s) v) c.args.best _ _ _ _ c.along-a.ensures c.along-b.ensures c.along-c.ensures c.along.ensures)
+pub returns-in-None : goal.returns-in-None
+returns-in-None g c = λ h m. rw c.in-None.is refl
+
+pub loop-d-init : goal.loop-d-init
+loop-d-init g c = λ h m. refl
+
+pub loop-d-preserved : goal.loop-d-preserved
+loop-d-preserved g c =
+    λ h m. foldl_turn h (later_shifts (Some c.in-Some.p)) _ _ _ _ nan c.loop-d-test.true (c.loop-d.invariant h m) (m _ _ _ c.step-point.ensures)
+
+pub returns : goal.returns
+returns g c =
+    λ h m.
+    let i : c.loop-d.d-index ≡ 4 = omega arith in
+    rw c.in-Some.is (rw i at (c.loop-d.invariant h m))

@@ -1,10 +1,8 @@
+use Rattle.std.proofs.Common.{arith}
+use Rattle.std.proofs.lemmas.Grind.{common_steps}
 use Rattle.periodic.specs.Unwrap.{period_cause_of}
 use Rattle.periodic.proofs.period_cause.Goals as goal
 
-pub returns-in-Absent : goal.returns-in-Absent
+pub returns : goal.returns
 unfolding period_cause_of
-returns-in-Absent c = rw c.in-Absent.is
-
-pub returns-in-Every : goal.returns-in-Every
-unfolding period_cause_of
-returns-in-Every c = rw c.in-Every.is c.period.ensures
+returns c = grind (arith, common_steps)

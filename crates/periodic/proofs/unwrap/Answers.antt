@@ -1,10 +1,10 @@
-use Rattle.periodic.specs.Unwrap.{unwrapped, nearest_of}
+use Rattle.periodic.specs.Unwrap.{unwrapped}
 use Rattle.periodic.proofs.unwrap.Goals as goal
 
-pub returns-in-Absent : goal.returns-in-Absent
+pub returns-in-None : goal.returns-in-None
 unfolding unwrapped
-returns-in-Absent c = rw c.in-Absent.is
+returns-in-None c = rw c.in-None.is
 
-pub returns-in-Every : goal.returns-in-Every
-unfolding unwrapped nearest_of
-returns-in-Every c = rw (c.in-Every.is, c.first_nearest.ensures, c.candidates.ensures)
+pub returns-in-Some : goal.returns-in-Some
+unfolding unwrapped
+returns-in-Some c = rw (c.in-Some.is, c.first_nearest.ensures, c.candidates.ensures)

@@ -3,11 +3,4 @@ use Rattle.periodic.proofs.unwrap_cause.Goals as goal
 
 pub returns : goal.returns
 unfolding unwrap_cause
-returns c =
-    rw (
-      c.lower-2.ensures,
-      c.lower.ensures,
-      c.float-2.ensures,
-      c.float.ensures,
-      c.period_cause-p.ensures,
-    )
+returns c = rw (c.lower-2.ensures, c.lower.ensures, c.period_cause.ensures, c.float-2.ensures, c.float.ensures)

@@ -1,18 +1,6 @@
-use mathlib.Core.Path.{◌≡◌}
-use native.Mathlib.Omega.{arith}
+use Rattle.std.proofs.Common.{rules}
 use Rattle.checks.specs.Causes.{pending_row_cause}
-use Rattle.checks.proofs.Lowest.{lowest_start, lowest_turn}
 use Rattle.points.proofs.pending_rows.Goals as goal
 
-pub loop-i-init : goal.loop-i-init
-loop-i-init c = (omega arith, lowest_start _)
-
-pub loop-i-preserved : goal.loop-i-preserved
-loop-i-preserved c =
-    let a = c.args in
-    (omega arith, lowest_turn (pending_row_cause a.numbers.now) _ _ _ _ c.loop-i.invariant.1 c.cause_when.ensures c.lower-least.ensures)
-
 pub returns : goal.returns
-returns c =
-    let q : c.loop-i.i ≡ c.args.count = omega arith in
-    rw (← q) c.loop-i.invariant.1
+returns c = c.lowest_cause.ensures (pending_row_cause c.args.numbers.now) (λ i r h p. search rules)

@@ -1,28 +1,31 @@
-use mathlib.Core.Path.{◌∙◌}
-use native.Mathlib.Omega.{arith}
-use lib.ListN.{length-set}
-use Rattle.seams.proofs.Repeats.{looking_start, looking_found, looking_turn, looking_done}
+use Rattle.std.proofs.Common.{refl, ◌∙◌, ◌≡◌, false, length, arith, length-set}
+use Rattle.std.proofs.lemmas.List.{length-replicate, get_or-replicate}
+use Rattle.seams.specs.Seams.{stands}
+use Rattle.seams.proofs.Repeats.{before, repeats_next, entries_more, none_left}
 use Rattle.seams.proofs.repeats_in.Goals as goal
 
-pub loop-i-init : goal.loop-i-init
-loop-i-init c = looking_start _ _ c.requires.0 _ c.requires.2
+pub loop-v-init : goal.loop-v-init
+unfolding before stands
+loop-v-init g c = record { long = length-replicate g.row.N false; entries = λ v h. get_or-replicate g.row.N v false false h; rest = refl }
 
-pub visit-requires : goal.visit-requires
-visit-requires c = omega (arith, c.loop-i.invariant.long, c.requires.1 c.loop-i.i c.loop-i-test.true)
+pub returns-then-seen-v : goal.returns-then-seen-v
+returns-then-seen-v g c =
+    let l = c.loop-v in
+    let lt = c.loop-v-test.true in
+    rw (l.invariant.rest, repeats_next _ _ _ _ l.invariant.entries lt (c.requires.known _ lt), c.if-seen-v.true)
 
-pub shape_of-seen-then-visit-ne0 : goal.shape_of-seen-then-visit-ne0
-shape_of-seen-then-visit-ne0 c = rw c.visit.ensures.1 (length-set c.loop-i.seen _ _ ∙ c.loop-i.invariant.long)
-
-pub returns-then-visit-ne0 : goal.returns-then-visit-ne0
-returns-then-visit-ne0 c =
-    looking_found _ _ c.requires.0 _ _ _ c.loop-i.invariant c.loop-i-test.true (c.requires.1 c.loop-i.i c.loop-i-test.true) (rw c.visit.ensures.0 at c.if-visit-ne0.true)
-
-pub loop-i-preserved : goal.loop-i-preserved
-loop-i-preserved c =
-    rw c.visit.ensures.1 (looking_turn _ _ c.requires.0 _ _ _ c.loop-i.invariant c.loop-i-test.true (c.requires.1 c.loop-i.i c.loop-i-test.true) (rw c.visit.ensures.0 at c.if-visit-ne0.false))
-
-pub shape_of-seen : goal.shape_of-seen
-shape_of-seen c = c.loop-i.invariant.long
+pub loop-v-preserved : goal.loop-v-preserved
+loop-v-preserved g c =
+    let l = c.loop-v in
+    let lt = c.loop-v-test.true in
+    let known = c.requires.known _ lt in
+    record {
+      long = length-set l.seen _ _ ∙ l.invariant.long;
+      entries = entries_more _ _ _ _ l.invariant.entries lt known l.invariant.long;
+      rest = l.invariant.rest ∙ rw (repeats_next _ _ _ _ l.invariant.entries lt known, c.if-seen-v.false);
+    }
 
 pub returns : goal.returns
-returns c = looking_done _ _ c.requires.0 _ _ _ c.loop-i.invariant c.loop-i-test.false
+returns g c =
+    let all : c.loop-v.v-index ≡ length c.args.divisor.now = omega arith in
+    rw (c.loop-v.invariant.rest, all, none_left)

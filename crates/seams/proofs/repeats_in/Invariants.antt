@@ -1,10 +1,12 @@
-use Prim.Native.Nat.{◌-◌}
-use lib.ListN.{length}
-use Rattle.seams.proofs.Repeats.{Looking}
+use Rattle.std.proofs.Common.{◌≡◌, ℕ, ◌<◌, false, [], length, get_or, drop}
+use Rattle.seams.specs.Seams.{stands, repeats_after}
+use Rattle.seams.proofs.Repeats.{before}
 use Rattle.seams.proofs.repeats_in.Given as goal
 
-abbrev pub invariant-loop-i : goal.invariant-loop-i
-invariant-loop-i l = Looking l.divisor l.count (length l.initial.seen) l.seen l.i
-
-abbrev pub decreases-loop-i : goal.decreases-loop-i
-decreases-loop-i l = l.count - l.i
+-- The table has an entry for each vertex that stood before, and none stood twice.
+abbrev pub invariant-loop-v : goal.invariant-loop-v
+invariant-loop-v g l = record {
+  long : length l.seen ≡ g.row.N;
+  entries : (v : ℕ) → v < g.row.N → get_or l.seen v false ≡ stands v (before l.divisor l.v-index);
+  rest : repeats_after [] l.divisor ≡ repeats_after (before l.divisor l.v-index) (drop l.v-index l.divisor);
+}

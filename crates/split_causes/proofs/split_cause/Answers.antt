@@ -1,39 +1,45 @@
-use mathlib.Core.Path.{◌∙◌, sym}
-use native.Mathlib.Omega.{arith}
+use Rattle.std.proofs.Common.{arith, sym}
+use Rattle.std.proofs.lemmas.Result.{err_from_is_err_and}
 use Rattle.split_causes.proofs.Accepted.{input_accepted, cause_input, cause_room, cause_odd, cause_repeat}
 use Rattle.split_causes.proofs.split_cause.Goals as goal
 
-pub returns-then-input-ne0 : goal.returns-then-input-ne0
-returns-then-input-ne0 c = λ s. cause_input _ _ (c.split_input_cause-input.ensures _ _ s) c.if-input-ne0.true
+pub returns-in_err-split_input_cause : goal.returns-in_err-split_input_cause
+returns-in_err-split_input_cause c = λ s.
+    let p = err_from_is_err_and c.from_residual.result c.from_residual.ensures.1 in
+    rw (p.1, p.2) (cause_input _ _ (c.in_err-split_input_cause.ensures _ _ s))
 
 pub total_uses-requires : goal.total_uses-requires
 total_uses-requires c =
-    let A = input_accepted _ (sym (c.split_input_cause-input.ensures c.args.uses.now c.args.lengths.now 0) ∙ c.if-input-ne0.false) in
+    let A = input_accepted _ (sym (c.in_ok-split_input_cause.ensures c.args.uses.now c.args.lengths.now 0)) in
     (omega (arith, A.wires), A.rebuilt_lengths)
 
 pub overflow_add-n : goal.overflow_add-n
 overflow_add-n c =
-    let A = input_accepted _ (sym (c.split_input_cause-input.ensures c.args.uses.now c.args.lengths.now 0) ∙ c.if-input-ne0.false) in
+    let A = input_accepted _ (sym (c.in_ok-split_input_cause.ensures c.args.uses.now c.args.lengths.now 0)) in
     omega (arith, A.few, A.points_lent, c.total_uses.ensures)
 
 pub overflow_add-edges : goal.overflow_add-edges
 overflow_add-edges c =
-    let A = input_accepted _ (sym (c.split_input_cause-input.ensures c.args.uses.now c.args.lengths.now 0) ∙ c.if-input-ne0.false) in
+    let A = input_accepted _ (sym (c.in_ok-split_input_cause.ensures c.args.uses.now c.args.lengths.now 0)) in
     omega (arith, A.edges.below, A.points_lent)
 
-pub returns-then-room-ne0 : goal.returns-then-room-ne0
-returns-then-room-ne0 c =
-    λ s. cause_room _ (sym (c.split_input_cause-input.ensures c.args.uses.now c.args.lengths.now s) ∙ c.if-input-ne0.false) _ (rw (← c.total_uses.ensures) c.room_cause-room.ensures) c.if-room-ne0.true
+pub returns-in_err-room_cause : goal.returns-in_err-room_cause
+returns-in_err-room_cause c = λ s.
+    let r = c.from_residual-in_err-room_cause in
+    let p = err_from_is_err_and r.result r.ensures.1 in
+    rw (p.1, p.2) (cause_room _ (c.in_ok-split_input_cause.ensures c.args.uses.now c.args.lengths.now s) _ (rw (← c.total_uses.ensures) c.in_err-room_cause.ensures))
 
-pub returns-then-odd-ne0 : goal.returns-then-odd-ne0
-returns-then-odd-ne0 c =
-    λ s. cause_odd _ (sym (c.split_input_cause-input.ensures c.args.uses.now c.args.lengths.now s) ∙ c.if-input-ne0.false) (sym (rw (← c.total_uses.ensures) c.room_cause-room.ensures) ∙ c.if-room-ne0.false) _ c.odd_cause-odd.ensures c.if-odd-ne0.true
+pub returns-in_err-odd_cause : goal.returns-in_err-odd_cause
+returns-in_err-odd_cause c = λ s.
+    let r = c.from_residual-in_err-odd_cause in
+    let p = err_from_is_err_and r.result r.ensures.1 in
+    rw (p.1, p.2) (cause_odd _ (c.in_ok-split_input_cause.ensures c.args.uses.now c.args.lengths.now s) (rw (← c.total_uses.ensures) c.in_ok-room_cause.ensures) _ c.in_err-odd_cause.ensures)
 
 pub repeat_cause-requires : goal.repeat_cause-requires
 repeat_cause-requires c =
-    let A = input_accepted _ (sym (c.split_input_cause-input.ensures c.args.uses.now c.args.lengths.now 0) ∙ c.if-input-ne0.false) in
+    let A = input_accepted _ (sym (c.in_ok-split_input_cause.ensures c.args.uses.now c.args.lengths.now 0)) in
     (A.stops_lent, A.stops_known, A.vertices)
 
 pub returns : goal.returns
-returns c =
-    λ s. cause_repeat _ (sym (c.split_input_cause-input.ensures c.args.uses.now c.args.lengths.now s) ∙ c.if-input-ne0.false) (sym (rw (← c.total_uses.ensures) c.room_cause-room.ensures) ∙ c.if-room-ne0.false) (sym c.odd_cause-odd.ensures ∙ c.if-odd-ne0.false) _ c.repeat_cause.ensures
+returns c = λ s.
+    cause_repeat _ (c.in_ok-split_input_cause.ensures c.args.uses.now c.args.lengths.now s) (rw (← c.total_uses.ensures) c.in_ok-room_cause.ensures) c.in_ok-odd_cause.ensures c.repeat_cause.ensures

@@ -1,6 +1,7 @@
-use native.Mathlib.Omega.{arith}
+use Rattle.std.proofs.lemmas.Result.{err_from_is_err_and}
+use Rattle.std.proofs.Common.{arith}
 use Rattle.cutting.proofs.Outcome.{accepted}
-use Rattle.split_closed_edges.proofs.Outcome.{closable, cuts_le, addable, outcome_full, outcome_done}
+use Rattle.split_closed_edges.proofs.Outcome.{closable, cuts_few, addable, outcome_full, outcome_done}
 use Rattle.split_closed_edges.proofs.split_checked.Goals as goal
 
 pub cut_room-room-requires : goal.cut_room-room-requires
@@ -11,30 +12,33 @@ cut_room-room-requires c =
       edges_bound = (A.edges.below, A.edges.numbers, A.edges.floats);
     }
 
-pub mend_closed-m-requires : goal.mend_closed-m-requires
-mend_closed-m-requires c = closable _ _ _ _ _ _ _ _ _ c.requires
+pub mend_closed-requires : goal.mend_closed-requires
+mend_closed-requires c = let h = closable _ _ _ _ _ _ _ _ _ c.requires in record { table = (h.0, h.1); wires_value = h.2 }
+
+pub returns-in_err-m : goal.returns-in_err-m
+returns-in_err-m c =
+    let p = err_from_is_err_and c.from_residual.result c.from_residual.ensures.1 in
+    rw (p.1, p.2)
+    (outcome_full _ _ _ _ _ _ _ _ _ c.requires _ c.cut_room-room.ensures _ _ _ c.mend_closed.ensures _ c.in_err-m.was)
 
 pub add_edges-requires : goal.add_edges-requires
-add_edges-requires c = addable _ _ _ _ _ _ _ _ _ c.requires _ c.cut_room-room.ensures _ _ _ c.mend_closed-m.ensures c.if-m.true
+add_edges-requires c = addable _ _ _ _ _ _ _ _ _ c.requires _ c.cut_room-room.ensures _ _ _ c.mend_closed.ensures _ c.in_ok-m.was
 
 pub overflow_add-result : goal.overflow_add-result
 overflow_add-result c =
     omega (
       arith,
-      cuts_le _ _ _ _ _ _ _ _ _ c.requires _ c.cut_room-room.ensures _ _ _ c.mend_closed-m.ensures,
+      cuts_few _ _ _ _ _ _ _ _ _ c.requires _ c.cut_room-room.ensures _ _ _ c.mend_closed.ensures _ c.in_ok-m.was,
       (accepted _ _ _ _ _ _ _ _ _ c.requires).vertices.below,
     )
 
-pub overflow_add-result-then-m : goal.overflow_add-result-then-m
-overflow_add-result-then-m c =
+pub overflow_add-result-2 : goal.overflow_add-result-2
+overflow_add-result-2 c =
     omega (
       arith,
-      cuts_le _ _ _ _ _ _ _ _ _ c.requires _ c.cut_room-room.ensures _ _ _ c.mend_closed-m.ensures,
+      cuts_few _ _ _ _ _ _ _ _ _ c.requires _ c.cut_room-room.ensures _ _ _ c.mend_closed.ensures _ c.in_ok-m.was,
       (accepted _ _ _ _ _ _ _ _ _ c.requires).edges.below,
     )
 
-pub returns-then-m : goal.returns-then-m
-returns-then-m c = outcome_done _ _ _ _ _ _ _ _ _ c.requires _ c.cut_room-room.ensures _ _ _ c.mend_closed-m.ensures _ _ _ _ c.if-m.true c.add_edges.ensures
-
 pub returns : goal.returns
-returns c = outcome_full _ _ _ _ _ _ _ _ _ c.requires _ c.cut_room-room.ensures _ _ _ c.mend_closed-m.ensures c.if-m.false
+returns c = outcome_done _ _ _ _ _ _ _ _ _ c.requires _ c.cut_room-room.ensures _ _ _ c.mend_closed.ensures _ c.in_ok-m.was _ _ _ _ c.add_edges.ensures

@@ -1,5 +1,4 @@
 use Prim.Native.Nat.{◌+◌, ◌-◌}
-use mathlib.Core.Path.{◌≡◌}
 use lib.ListN.{length, set}
 use Rattle.lists.specs.Ends.{front_of, back_of, marked_of}
 use Rattle.walk.proofs.Walks.{Between, Along}
@@ -7,13 +6,13 @@ use Rattle.walk.proofs.construct_boundaries.Given as goal
 
 -- The inner loop's invariant speaks of the wire with the use `last`, which the loop stores first.
 abbrev pub invariant-loop-v : goal.invariant-loop-v
-invariant-loop-v l = Along (front_of l.edge_numbers l.divisor l.edges) (back_of l.edge_numbers l.divisor l.edges) (marked_of l.marks) l.uses l.head l.next (set l.made l.taken l.last) l.sizes l.start l.from (l.taken + 1) l.wires l.last × (l.cause ≡ 0)
+invariant-loop-v l = Along (front_of l.edge_numbers l.divisor l.edges) (back_of l.edge_numbers l.divisor l.edges) (marked_of l.marks) l.uses l.head l.next (set l.made l.taken l.last) l.sizes l.start l.from (l.taken + 1) l.wires l.last
 
 abbrev pub decreases-loop-v : goal.decreases-loop-v
 decreases-loop-v l = length l.uses - l.taken
 
 abbrev pub invariant-walk : goal.invariant-walk
-invariant-walk l = Between (front_of l.edge_numbers l.divisor l.edges) (back_of l.edge_numbers l.divisor l.edges) (marked_of l.marks) l.uses l.head l.next l.made l.sizes l.start l.taken l.wires × (l.cause ≡ 0)
+invariant-walk l = Between (front_of l.edge_numbers l.divisor l.edges) (back_of l.edge_numbers l.divisor l.edges) (marked_of l.marks) l.uses l.head l.next l.made l.sizes l.start l.taken l.wires
 
 abbrev pub decreases-walk : goal.decreases-walk
 decreases-walk l = length l.uses - l.taken

@@ -1,19 +1,23 @@
-use Rattle.walk.proofs.Storing.{wires_fit, lengths_fit, copies_left}
+use Rattle.std.proofs.lemmas.Result.{err_from_is_err_and}
+use Rattle.walk.proofs.Storing.{nothing_left, wires_fit, lengths_fit, copies_left}
 use Rattle.walk.proofs.walk_wires.Goals as goal
+
+pub returns-in_err-walked : goal.returns-in_err-walked
+returns-in_err-walked c =
+    let p = err_from_is_err_and c.from_residual.result c.from_residual.ensures.1 in
+    rw (p.1, p.2) (nothing_left _ _ _ _ _ _ _ c.in_err-walked.ensures.traced)
 
 pub copy_wires-requires : goal.copy_wires-requires
 copy_wires-requires c =
-    let w = c.construct_boundaries-walked in
-    let p = c.requires in
-    wires_fit p.sound _ _ w.result w.ensures.traced c.made_by-wires.ensures _ w.ensures.made_len_2 p.uses_in_bounds.0
+    let w = c.in_ok-walked in
+    wires_fit c.requires.sound _ _ w.walked w.ensures.traced _ w.ensures.made_len_2 c.requires.uses_in_bounds.0
 
 pub copy-requires : goal.copy-requires
 copy-requires c =
-    let w = c.construct_boundaries-walked in
-    let p = c.requires in
-    lengths_fit p.sound _ _ w.result w.ensures.traced c.made_by-wires.ensures _ w.ensures.made_len_2.1 p.uses_in_bounds.1
+    let w = c.in_ok-walked in
+    lengths_fit c.requires.sound _ _ w.walked w.ensures.traced _ w.ensures.made_len_2.1 c.requires.uses_in_bounds.1
 
 pub returns : goal.returns
 returns c =
-    let w = c.construct_boundaries-walked in
-    copies_left c.requires.sound _ _ w.result w.ensures.traced c.made_by-wires.ensures _ _ c.copy_wires.ensures c.copy.ensures
+    let w = c.in_ok-walked in
+    copies_left c.requires.sound _ _ w.walked w.ensures.traced _ _ c.copy_wires.ensures c.copy.ensures

@@ -1,13 +1,15 @@
-use Rattle.wire_kinds.proofs.Sorting.{gathering_start, gathering_turn, gathering_done}
+use Rattle.std.proofs.Common.{sym, arith}
+use Rattle.wire_kinds.proofs.Sorting.{gathering_start, open_turn, closed_turn}
 use Rattle.wire_kinds.proofs.gather.Goals as goal
+use Rattle.wire_kinds.proofs.gather.Goals.{then-is_open, else-is_open}
 
 pub loop-i-init : goal.loop-i-init
-loop-i-init c = gathering_start _ _ _ _ c.requires.2
+loop-i-init c = gathering_start _ _ _
 
 pub loop-i-preserved : goal.loop-i-preserved
 loop-i-preserved c =
     let l = c.loop-i in
-    gathering_turn _ _ _ _ c.requires.2 l.i l.at l.out c.is_wanted.result _ _ l.invariant c.loop-i-test.true c.is_wanted.ensures c.put_if-at.ensures.0 c.put_if-at.ensures.1
-
-pub returns : goal.returns
-returns c = gathering_done _ _ _ _ c.requires.2 c.loop-i.i c.loop-i.at c.loop-i.out c.loop-i.invariant c.loop-i-test.false
+    elim c.if-is_open.branch [
+      | then-is_open w ↦ rw (w.at-is, w.opens-is, w.closed-is) (open_turn _ _ _ _ _ l.invariant (sym w.if-is_open.ensures) (omega arith))
+      | else-is_open w ↦ rw (w.at-is, w.opens-is, w.closed-is) (closed_turn _ _ _ _ _ l.invariant (sym w.if-is_open.ensures) (omega arith))
+    ]

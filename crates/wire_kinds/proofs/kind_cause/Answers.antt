@@ -3,11 +3,4 @@ use Rattle.wire_kinds.proofs.kind_cause.Goals as goal
 
 pub returns : goal.returns
 unfolding kind_cause_of
-returns c =
-    rw (
-      c.lower-2.ensures,
-      c.lower.ensures,
-      c.float.ensures,
-      c.uv-2.ensures,
-      c.uv.ensures,
-    )
+returns c = rw (c.lower-2.ensures, c.lower.ensures, c.float.ensures, c.uv-2.ensures, c.uv.ensures)

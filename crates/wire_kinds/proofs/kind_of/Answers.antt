@@ -1,14 +1,14 @@
 use Rattle.wire_kinds.specs.Kinds.{boundary_type}
 use Rattle.wire_kinds.proofs.kind_of.Goals as goal
 
-pub returns-then-area : goal.returns-then-area
+pub returns-then-not-is_closed : goal.returns-then-not-is_closed
 unfolding boundary_type
-returns-then-area c = rw (← c.is_closed.ensures, c.if-is_closed.true, c.if-area.true)
+returns-then-not-is_closed c = rw (← c.is_closed.ensures, c.if-not-is_closed.true)
 
-pub returns-then-is_closed : goal.returns-then-is_closed
+pub returns-then-wire : goal.returns-then-wire
 unfolding boundary_type
-returns-then-is_closed c = rw (← c.is_closed.ensures, c.if-is_closed.true, c.if-area.false)
+returns-then-wire c = rw (← c.is_closed.ensures, c.if-not-is_closed.false, c.if-wire.true)
 
-pub returns : goal.returns
+pub returns-else-wire : goal.returns-else-wire
 unfolding boundary_type
-returns c = rw (← c.is_closed.ensures, c.if-is_closed.false)
+returns-else-wire c = rw (← c.is_closed.ensures, c.if-not-is_closed.false, c.if-wire.false)

@@ -1,8 +1,6 @@
+use Rattle.compress.proofs.Refused.{exit_is}
 use Rattle.wire_kinds.proofs.Sorting.{sort_refused}
 use Rattle.wire_kinds.proofs.sort_wires.Goals as goal
 
-pub returns-then-cause-ne0 : goal.returns-then-cause-ne0
-returns-then-cause-ne0 c = sort_refused _ _ _ _ _ _ c.sort_cause-cause.ensures c.refusal_of.ensures c.if-cause-ne0.true
-
-pub returns : goal.returns
-returns c = c.sort_checked.ensures
+pub returns-in_err-sort_cause : goal.returns-in_err-sort_cause
+returns-in_err-sort_cause c = rw (exit_is _ _ c.from_residual.ensures.1) (sort_refused _ _ _ _ _ c.in_err-sort_cause.ensures)

@@ -1,10 +1,10 @@
 use mathlib.Core.Path.{refl}
-use Rattle.cutting.specs.Contract.{said_of}
+use Rattle.compress.specs.Said.{said_of}
 use Rattle.healing.proofs.Told.{told_result, told_refused, shell_told}
 use Rattle.healing.proofs.cut.kaugrenna_cut_edge_by_intersections.Goals as goal
 
-pub returns-in-Done : goal.returns-in-Done
-returns-in-Done c = shell_told c.cut_edge_by_intersections-answer.ensures (told_result said_of refl c.in-Done.is refl)
+pub returns-in-Ok : goal.returns-in-Ok
+returns-in-Ok c = shell_told c.cut_edge_by_intersections-answer.ensures (told_result (said_of (λ n. n)) refl c.in-Ok.is refl)
 
-pub returns-in-Refused : goal.returns-in-Refused
-returns-in-Refused c = shell_told c.cut_edge_by_intersections-answer.ensures (told_refused said_of refl c.in-Refused.is c.in-Refused.r c.refusal_code.ensures refl)
+pub returns-in-Err : goal.returns-in-Err
+returns-in-Err c = shell_told c.cut_edge_by_intersections-answer.ensures (told_refused (said_of (λ n. n)) refl c.in-Err.is c.in-Err.r c.refusal_code.ensures refl)

@@ -1,0 +1,12 @@
+use Rattle.std.proofs.Common.{arith, refl, replicate}
+use lib.ListN.{length-replicate}
+use Rattle.one_cut.proofs.Outcome.{marked, map_mends}
+use Rattle.one_cut.proofs.mend_within.Goals as goal
+
+pub mend_wires-requires : goal.mend_wires-requires
+mend_wires-requires g c =
+    map_mends _ c.args.edges c.args.i _ _ _ (marked _ _ _ _ _ refl (rw length-replicate) c.requires.table.0 (rw length-replicate c.requires.table.1)) (omega (arith, c.requires.table)) c.requires.wires_value
+
+pub returns : goal.returns
+returns g c =
+    rw (marked (replicate g.row.N 0) _ c.args.edges c.args.i c.args.edges refl (rw length-replicate) c.requires.table.0 (rw length-replicate c.requires.table.1)) at c.mend_wires.ensures

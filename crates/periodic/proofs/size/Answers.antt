@@ -1,7 +1,0 @@
-use Rattle.periodic.proofs.size.Goals as goal
-
-pub returns-then-d : goal.returns-then-d
-returns-then-d c = rw c.if-d.true
-
-pub returns-else-d : goal.returns-else-d
-returns-else-d c = rw c.if-d.false
