@@ -3,6 +3,10 @@
 #![tactic(auto)]
 
 use compress::{Refusal, Uv};
+use join::OpenWire;
+use rows::lent::{Wires, WiresMut};
+use rows::tables::{Table, TableMut};
+use seams::Divisor;
 use wire_kinds::BoundaryType;
 
 // The descriptor of standard output.
@@ -13,27 +17,27 @@ const K9: [u32; 20] = [0, 2, 0, 0, 0, 1, 0, 0, 1, 0, 0, 0, 2, 3, 0, 0, 3, 2, 0, 
 
 // "K14: list of one vertex: 9." K9's edges and wire, as the face and to be rebuilt; every buffer holds 99 and is left.
 fn is_k14_same() -> bool {
-    let wire = [2u32, 4, 0, 6, 8, 1];
+    let wire = Wires {
+        uses: &[2u32, 4, 0, 6, 8, 1],
+        lengths: &[6],
+        count: 1,
+    };
     let mut numbers = K9;
     let mut floats = [0.0f64; 36];
     let mut uses = [99u32; 8];
     let mut lengths = [99u32; 8];
     let answer = split::split_boundaries_by_divisor(
-        &mut numbers,
-        &mut floats,
+        4,
+        &mut TableMut::new(&mut numbers, &mut floats, 5),
         &wire,
-        &[6],
         &wire,
-        &[6],
-        &[3],
-        &[0.0, 0.0],
+        &Divisor {
+            vertices: &[3],
+            points: &[0.0, 0.0],
+            count: 1,
+        },
         &mut uses,
         &mut lengths,
-        4,
-        5,
-        1,
-        1,
-        1,
         7,
     );
     let Err(r) = answer else {
@@ -52,9 +56,21 @@ fn join_pipe(
     lengths: &mut [u32],
 ) -> Result<Option<usize>, Refusal> {
     let floats = [0.0f64; 30];
-    join::connect_open_boundaries(
-        &K9, &floats, first, second, uses, lengths, 4, 5, 2, 2, 1, 0, 2,
-    )
+    let edges = Table::new(&K9, &floats, 5);
+    let first = OpenWire {
+        uses: first,
+        count: 2,
+    };
+    let second = OpenWire {
+        uses: second,
+        count: 2,
+    };
+    let mut wires = WiresMut {
+        uses,
+        lengths,
+        count: 1,
+    };
+    join::connect_open_boundaries(4, &edges, &first, &second, &mut wires, 0, 2)
 }
 
 // "K15: K9's edges; open 1+ 2+ and 3+ 4+; new wire 0+ 0-; v0 0, v1 2: result 0- 1+ 2+ 0+ 3+ 4+."

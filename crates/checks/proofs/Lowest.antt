@@ -15,7 +15,8 @@ use Rattle.compress.specs.Refusals.{refusal_number}
 use Rattle.compress.specs.Wires.{total}
 use Rattle.compress.proofs.Refused.{number_above}
 use Rattle.compress.proofs.Cells.{take_more}
-use Rattle.checks.specs.Causes.{lower_of, lowest_of}
+use lib.Seq.{get_or-take, length-take-le}
+use Rattle.checks.specs.Causes.{lower_of, lowest_of, uses_cause}
 
 -- ---- the lower of two
 -- the lower of two causes, each by another name
@@ -81,6 +82,12 @@ last i n h = eq-or-lt_of_le (less h)
     less : i < suc n → i ≤ n
     less g = omega arith
 
+-- it is told by the first n causes alone
+pub lowest_same : (f g : ℕ → ℕ) (n : ℕ) → ((i : ℕ) → i < n → f i ≡ g i) → lowest_of f n ≡ lowest_of g n
+unfolding lowest_of
+lowest_same f g zero h = refl
+lowest_same f g (suc n) h = rw (lowest_same f g n (λ i p. h i (omega arith)), h n (omega arith))
+
 -- where the lowest is 0, each is
 pub lowest_none : (f : ℕ → ℕ) (n i : ℕ) → lowest_of f n ≡ 0 → i < n → f i ≡ 0
 unfolding lowest_of
@@ -138,3 +145,9 @@ total_more ls i h = rw (take_more 0 ls i h) (total_append (take i ls) (get_or ls
 pub total_none : (ls : List ℕ) → total (take 0 ls) ≡ 0
 unfolding total
 total_none ls = refl
+
+-- ---- the front of a slice of uses
+pub uses_front : (edges : ℕ) (us : List ℕ) (n : ℕ) → n ≤ length us → uses_cause edges (take n us) (length (take n us)) ≡ uses_cause edges us n
+unfolding uses_cause
+uses_front edges us n h =
+    rw (length-take-le n us h) (lowest_same _ _ n (λ i p. rw (get_or-take n us i 0 p)))

@@ -1,11 +1,11 @@
 -- What the tests of the first pass say: a row that passes them has no cause. Assumes nothing.
-use mathlib.Core.Path.{◌≡◌, refl, ◌∙◌}
+use mathlib.Core.Path.{◌≡◌, refl, sym, ◌∙◌}
 use mathlib.Core.Bool.{Bool, true, false, not, ◌&&◌}
 use mathlib.Core.List.{List}
 use Prim.Native.Nat.{ℕ, zero, suc, ◌+◌, ◌*◌, ◌≤◌, ◌<◌}
 use native.Mathlib.Numerals.{add-one}
 use native.Mathlib.Omega.{arith}
-use borrow.Author.Tests.{ltb-true, lt-leb, le-ltb}
+use borrow.Author.Tests.{ltb-true, leb-true, lt-leb, le-ltb}
 use lib.Dec.{T, eqb, leb, ltb}
 use lib.ListN.{length, get_or}
 use lib.Ieee.{Float, nan, inf, fin, binary64, up, down, below, neg, le, lt, fits}
@@ -24,7 +24,8 @@ use Rattle.compress.specs.declared.Curve.TheVariants.{Span, Seam}
 use Rattle.compress.specs.declared.Vertex.TheVariants.{Pending}
 use Rattle.compress.specs.Records.{pick, first_of, last_of}
 use Rattle.compress.specs.Rows.{curve_of, curve_at, edge_of, vertex_of}
-use Rattle.checks.specs.Causes.{when, lower_of, lowest_of, float_cause, range_cause, parameter_cause, uv_cause, point_cause, curve_cause, edge_cause, vertex_cause, edge_row_cause, vertex_row_cause, pending_row_cause}
+use Rattle.compress.specs.Shell.{rows_fit}
+use Rattle.checks.specs.Causes.{table_cause, when, lower_of, lowest_of, float_cause, range_cause, parameter_cause, uv_cause, point_cause, curve_cause, edge_cause, vertex_cause, edge_row_cause, vertex_row_cause, pending_row_cause}
 use Rattle.checks.proofs.Lowest.{lower_first, lower_none}
 
 -- ---- tests
@@ -70,6 +71,14 @@ pub lowest_passed : (f : ℕ → ℕ) (n : ℕ) (r : Bool) (No : Type 0) → Mat
 lowest_passed f n true No h e =
     lowest_all f n (λ i p. let q : get_or (range_with_len 0 n) i 0 ≡ i = get_or-range_with_len 0 n i 0 p ∙ omega arith in rw q at (h i 0 (omega arith) (rw (length-range_with_len 0 n) p)))
 lowest_passed f n false No h e = no e
+
+-- a table that fits, and whose rows have no cause
+pub table_passed : (w v : ℕ) (f : ℕ → ℕ) (ns : List ℕ) (fs : List Float) (n : ℕ) → rows_fit w v ns fs n ≡ true → ((i : ℕ) → i < n → f i ≡ 0) → 0 ≡ table_cause w v f ns fs n
+table_passed w v f ns fs n q h =
+    let p = both (leb n 4096) _ q in
+    let r = both (leb (n * w) (length ns)) (leb (n * v) (length fs)) p.1 in
+    rw (le-ltb 4096 n (leb-true n 4096 p.0), le-ltb (length ns) (n * w) (leb-true (n * w) (length ns) r.0), le-ltb (length fs) (n * v) (leb-true (n * v) (length fs) r.1))
+    (sym (lowest_all f n h))
 
 pub float_sound : (x : Float) → sized_of x ≡ true → float_cause x ≡ 0
 unfolding float_cause

@@ -97,15 +97,15 @@ vertex_row_cause ns fs i =
 
 -- ---- tables: 1 where "a bound on a count is passed by the input" or "a count .. is above what was lent", else the lowest of its rows
 
+-- n rows of w numbers and v floats, by the cause of a row
+abbrev pub table_cause : ℕ → ℕ → (ℕ → ℕ) → List ℕ → List Float → ℕ → ℕ
+table_cause w v row ns fs n = pick (ltb 4096 n) 1 (pick (ltb (length ns) (n * w)) 1 (pick (ltb (length fs) (n * v)) 1 (lowest_of row n)))
+
 unfoldable pub edges_cause : ℕ → List ℕ → List Float → ℕ → ℕ
-edges_cause vertices ns fs n =
-    pick (ltb 4096 n) 1
-    (pick (ltb (length ns) (n * 4)) 1 (pick (ltb (length fs) (n * 6)) 1 (lowest_of (edge_row_cause vertices ns fs) n)))
+edges_cause vertices ns fs n = table_cause 4 6 (edge_row_cause vertices ns fs) ns fs n
 
 unfoldable pub vertices_cause : List ℕ → List Float → ℕ → ℕ
-vertices_cause ns fs n =
-    pick (ltb 4096 n) 1
-    (pick (ltb (length ns) (n * 3)) 1 (pick (ltb (length fs) (n * 7)) 1 (lowest_of (vertex_row_cause ns fs) n)))
+vertices_cause ns fs n = table_cause 3 7 (vertex_row_cause ns fs) ns fs n
 
 -- 7: "Any vertex lent to nearest ends or to the non-simple search is pending". A table that does not lie in its slice has cause 1.
 abbrev pub pending_row_cause : List ℕ → ℕ → ℕ

@@ -9,6 +9,7 @@ ghost use Rattle.compress.specs.Wires.{total};
 ghost use Rattle.checks.specs.Causes.{when, lower_of, lowest_of, count_cause, kind_cause, vertex_number_cause, edge_number_cause, float_cause, range_cause, parameter_cause, period_cause, uv_cause, curve_cause, edge_cause, point_cause, vertex_cause, uses_cause, wires_cause};
 
 use compress::{Checked, Curve, Edge, Refusal, Uv, Vertex};
+use rows::lent::Wires;
 
 // The refusal where the test holds: a row of tests is then one expression, with no branch.
 pub fn cause_when(test: bool, refusal: Refusal) -> Checked
@@ -173,65 +174,57 @@ pub fn vertex(v: Vertex) -> Checked
 
 // ---- wires
 
-// The sum of the first `count` lengths. Of at most 64 lengths none wraps.
-pub fn total_uses(lengths: &[u32], count: usize) -> usize
-    requires { (count ≤ 64) × (count ≤ length lengths.now) }
-    ensures { result ≡ total (take count lengths.now) }
+// The sum of lengths. Of at most 64 none wraps.
+pub fn total_uses(lengths: &[u32]) -> usize
+    requires { length lengths.now ≤ 64 }
+    ensures { result ≡ total lengths.now }
 {
     let mut sum: usize = 0;
-    for i in 0..count {
-        sum += lengths[i] as usize;
+    for &n in lengths {
+        sum += n as usize;
     }
     sum
 }
 
 // A test that only says yes or no: after a yes the uses are not read again, after a no their causes are worked out.
-fn are_uses_sound(edges: usize, uses: &[u32], count: usize) -> bool
-    requires { count ≤ length uses.now }
-    ensures { result ≡ true → uses_cause edges uses.now count ≡ 0 }
+fn are_uses_sound(edges: usize, uses: &[u32]) -> bool
+    ensures { result ≡ true → uses_cause edges uses.now (length uses.now) ≡ 0 }
 {
     let bound = narrow(edges);
     let mut sound = true;
-    for i in 0..count {
-        sound = sound & (uses[i] / 2 < bound);
+    // Every use is looked at, with no way out: such a loop is done eight uses at a time, which `all` is not.
+    for &u in uses {
+        sound = sound & (u / 2 < bound);
     }
     sound
 }
 
-fn use_causes(edges: usize, uses: &[u32], count: usize) -> Checked
-    requires { count ≤ length uses.now }
-    ensures { cause_of result ≡ uses_cause edges uses.now count }
+// The uses of a wire, over a table of `edges` edges.
+pub fn uses(edges: usize, uses: &[u32]) -> Checked
+    ensures { cause_of result ≡ uses_cause edges uses.now (length uses.now) }
 {
-    lowest_cause(count, |i| edge_number(edges, uses[i] / 2))
-}
-
-// The first `count` uses, of a table of `edges` edges.
-pub fn use_rows(edges: usize, uses: &[u32], count: usize) -> Checked
-    requires { count ≤ length uses.now }
-    ensures { cause_of result ≡ uses_cause edges uses.now count }
-{
-    if are_uses_sound(edges, uses, count) {
+    if are_uses_sound(edges, uses) {
         return Ok(());
     }
-    use_causes(edges, uses, count)
+    lowest_cause(uses.len(), |i| edge_number(edges, uses[i] / 2))
 }
 
 // The wires of a call whose wires lie in one slice, over a table of `edges` edges.
-pub fn wires(edges: usize, uses: &[u32], lengths: &[u32], count: usize) -> Checked
-    ensures { cause_of result ≡ wires_cause edges uses.now lengths.now count }
+pub fn wires(edges: usize, wires: &Wires) -> Checked
+    ensures { cause_of result ≡ wires_cause edges wires.now.uses.now wires.now.lengths.now wires.now.count }
 {
-    if count > 64 {
+    if wires.count > 64 {
         return Err(Refusal::Malformed);
     }
-    if lengths.len() < count {
+    if wires.lengths.len() < wires.count {
         return Err(Refusal::Malformed);
     }
-    let sum = total_uses(lengths, count);
+    let sum = total_uses(&wires.lengths[..wires.count]);
     if sum > 1024 {
         return Err(Refusal::Malformed);
     }
-    if uses.len() < sum {
+    if wires.uses.len() < sum {
         return Err(Refusal::Malformed);
     }
-    use_rows(edges, uses, sum)
+    uses(edges, &wires.uses[..sum])
 }

@@ -53,12 +53,15 @@ store_shell s r =
 unfoldable pub counts_of : Shell → Counts
 counts_of r = record { vertices = length r.vertices; edges = length r.edges; uses = length (uses_of r.wires) }
 
--- n rows are within the bound of 4,096, and a place is lent for each of their cells
+-- n rows of w numbers and v floats are within the bound of 4,096, and a place is lent for each of their cells
+abbrev pub rows_fit : ℕ → ℕ → List ℕ → List Float → ℕ → Bool
+rows_fit w v ns fs n = leb n 4096 && (leb (n * w) (length ns) && leb (n * v) (length fs))
+
 unfoldable pub vertices_fit : List ℕ → List Float → ℕ → Bool
-vertices_fit ns fs n = leb n 4096 && (leb (n * 3) (length ns) && leb (n * 7) (length fs))
+vertices_fit = rows_fit 3 7
 
 unfoldable pub edges_fit : List ℕ → List Float → ℕ → Bool
-edges_fit ns fs n = leb n 4096 && (leb (n * 4) (length ns) && leb (n * 6) (length fs))
+edges_fit = rows_fit 4 6
 
 -- "1,024 uses out"
 unfoldable pub uses_fit : List ℕ → ℕ → Bool

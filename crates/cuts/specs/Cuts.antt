@@ -3,6 +3,11 @@ use Rattle.std.specs.Prelude.{List, ℕ, ◌+◌, ◌*◌, ltb, Float, length, g
 use Rattle.std.specs.Float.{nan}
 use Rattle.compress.specs.Records.{pick}
 use Rattle.checks.specs.Causes.{lower_of, lowest_of, parameter_cause, point_cause}
+use Rattle.compress.specs.declared.Edge.{Edge}
+use Rattle.compress.specs.Rows.{edge_at}
+use Rattle.rows.specs.declared.tables.TableMut.{TableMut}
+use Rattle.cut_edge.specs.declared.Halves.{Halves}
+use Rattle.cut_edge.specs.Cut.{halves_of}
 use Rattle.cuts.specs.declared.Cut.{Cut}
 
 -- a cut is its parameter and its point: four cells of a row
@@ -19,3 +24,7 @@ cut_cause t0 t1 c = lower_of (parameter_cause t0 t1 c.t) (point_cause c.x c.y c.
 -- n cuts: "a count .. is above what was lent", and every cut, used or not
 unfoldable pub cuts_cause : Float → Float → List Float → ℕ → ℕ
 cuts_cause t0 t1 cs n = pick (ltb (length cs) (n * 4)) 1 (lowest_of (λ i. cut_cause t0 t1 (cut_at cs i)) n)
+
+-- the halves of the edge in row i of a table, which is cut at t by vertex n
+abbrev pub halves_at : TableMut Edge → ℕ → Float → ℕ → Halves
+halves_at edges i t n = halves_of (edge_at edges.numbers.now edges.floats.now i) t n

@@ -5,12 +5,12 @@ ghost use Rattle.std.specs.Prelude.{◌≡◌, ◌+◌, ◌*◌, ◌≤◌, ◌<
 ghost use Rattle.compress.specs.declared.Vertex.TheVariants.{Given};
 ghost use Rattle.compress.specs.Refusals.{cause_of};
 ghost use Rattle.compress.specs.Layout.{put};
-ghost use Rattle.compress.specs.Rows.{edge_at, edge_number_layout, edge_float_layout, vertex_number_layout, vertex_float_layout};
-ghost use Rattle.checks.specs.Causes.{lowest_of};
-ghost use Rattle.cut_edge.specs.Cut.{halves_of};
-ghost use Rattle.cuts.specs.Cuts.{cut_at, cut_cause, cuts_cause};
+ghost use Rattle.compress.specs.Rows.{edge_number_layout, edge_float_layout, vertex_number_layout, vertex_float_layout};
+ghost use Rattle.rows.specs.Places.{SameTable};
+ghost use Rattle.cuts.specs.Cuts.{cut_at, cut_cause, cuts_cause, halves_at};
 
-use compress::{Checked, Refusal, Vertex};
+use compress::{Checked, Edge, Refusal, Vertex};
+use rows::tables::TableMut;
 
 // A cut: the parameter on the edge's curve, and the point there.
 #[derive(Clone, Copy)]
@@ -21,21 +21,14 @@ pub struct Cut {
     pub z: f64,
 }
 
-// ---- the cuts
-
-// The cut of row i: parameter, x, y, z.
-pub fn cut_at(cuts: &[f64], i: usize) -> Cut
-    requires { i * 4 + 4 ≤ length cuts.now }
-    ensures { result ≡ cut_at cuts.now i }
-{
-    let a = i * 4;
-    Cut {
-        t: cuts[a],
-        x: cuts[a + 1],
-        y: cuts[a + 2],
-        z: cuts[a + 3],
-    }
+// Cuts, as a host lends them: four floats each, and how many they are said to be.
+#[derive(Clone, Copy)]
+pub struct LentCuts<'a> {
+    pub floats: &'a [f64],
+    pub count: usize,
 }
+
+// ---- the cuts
 
 // Causes 4 and 5 of a cut on a curve from t0 to t1.
 fn cut_cause(t0: f64, t1: f64, c: Cut) -> Checked
@@ -46,51 +39,57 @@ fn cut_cause(t0: f64, t1: f64, c: Cut) -> Checked
     checks::lower(t, p)
 }
 
-fn cut_rows(t0: f64, t1: f64, cuts: &[f64], count: usize) -> Checked
-    requires { count * 4 ≤ length cuts.now }
-    ensures { cause_of result ≡ lowest_of (λ i. cut_cause t0 t1 (cut_at cuts.now i)) count }
-{
-    checks::lowest_cause(count, |i| cut_cause(t0, t1, cut_at(cuts, i)))
-}
-
-// Causes 1, 4 and 5 of all cuts.
-pub fn cuts_cause(t0: f64, t1: f64, cuts: &[f64], count: usize) -> Checked
-    ensures { cause_of result ≡ cuts_cause t0 t1 cuts.now count }
-{
-    if count > cuts.len() / 4 {
-        return Err(Refusal::Malformed);
+impl LentCuts<'_> {
+    // The cut of row i: parameter, x, y, z.
+    pub fn at(&self, i: usize) -> Cut
+        requires { i * 4 + 4 ≤ length self.now.floats.now }
+        ensures { result ≡ cut_at self.now.floats.now i }
+    {
+        let floats = self.floats;
+        let a = i * 4;
+        Cut {
+            t: floats[a],
+            x: floats[a + 1],
+            y: floats[a + 2],
+            z: floats[a + 3],
+        }
     }
-    cut_rows(t0, t1, cuts, count)
+
+    // Causes 1, 4 and 5 of all cuts, on a curve from t0 to t1.
+    pub fn cause(&self, t0: f64, t1: f64) -> Checked
+        ensures { cause_of result ≡ cuts_cause t0 t1 self.now.floats.now self.now.count }
+    {
+        if self.count > self.floats.len() / 4 {
+            return Err(Refusal::Malformed);
+        }
+        checks::lowest_cause(self.count, |i| cut_cause(t0, t1, self.at(i)))
+    }
 }
 
 // ---- the tables
 
-// Edge i is cut as the cut says, by vertex n, and its second half becomes edge m.
-pub fn put_cut(
-    vertex_numbers: &mut [u32],
-    vertex_floats: &mut [f64],
-    edge_numbers: &mut [u32],
-    edge_floats: &mut [f64],
-    i: usize,
-    n: usize,
-    m: usize,
-    c: Cut,
-)
-    requires n_bound { (n < 4096) × (n * 3 + 3 ≤ length vertex_numbers.old) × (n * 7 + 7 ≤ length vertex_floats.old) }
-    requires i_lt_m { (i < m) × (m * 4 + 4 ≤ length edge_numbers.old) × (m * 6 + 6 ≤ length edge_floats.old) }
-    ensures vertex_numbers_after { vertex_numbers.new ≡ put vertex_number_layout vertex_numbers.old n (Given c.x c.y c.z) }
-    ensures vertex_floats_after { vertex_floats.new ≡ put vertex_float_layout vertex_floats.old n (Given c.x c.y c.z) }
-    ensures edge_numbers_after { edge_numbers.new ≡ put edge_number_layout (put edge_number_layout edge_numbers.old i (halves_of (edge_at edge_numbers.old edge_floats.old i) c.t n).old) m (halves_of (edge_at edge_numbers.old edge_floats.old i) c.t n).new }
-    ensures edge_floats_after { edge_floats.new ≡ put edge_float_layout (put edge_float_layout edge_floats.old i (halves_of (edge_at edge_numbers.old edge_floats.old i) c.t n).old) m (halves_of (edge_at edge_numbers.old edge_floats.old i) c.t n).new }
+// Edge i is cut as the cut says, by the next vertex, and its second half becomes the next edge.
+pub fn put_cut(vertices: &mut TableMut<Vertex>, edges: &mut TableMut<Edge>, i: usize, c: Cut)
+    requires vertex_row { (vertices.old.count < 4096) × (vertices.old.count * 3 + 3 ≤ length vertices.old.numbers.now) × (vertices.old.count * 7 + 7 ≤ length vertices.old.floats.now) }
+    requires edge_row { (i < edges.old.count) × (edges.old.count * 4 + 4 ≤ length edges.old.numbers.now) × (edges.old.count * 6 + 6 ≤ length edges.old.floats.now) }
+    ensures vertex_numbers_after { vertices.new.numbers.now ≡ put vertex_number_layout vertices.old.numbers.now vertices.old.count (Given c.x c.y c.z) }
+    ensures vertex_floats_after { vertices.new.floats.now ≡ put vertex_float_layout vertices.old.floats.now vertices.old.count (Given c.x c.y c.z) }
+    ensures edge_numbers_after { edges.new.numbers.now ≡ put edge_number_layout (put edge_number_layout edges.old.numbers.now i (halves_at edges.old i c.t vertices.old.count).old) edges.old.count (halves_at edges.old i c.t vertices.old.count).new }
+    ensures edge_floats_after { edges.new.floats.now ≡ put edge_float_layout (put edge_float_layout edges.old.floats.now i (halves_at edges.old i c.t vertices.old.count).old) edges.old.count (halves_at edges.old i c.t vertices.old.count).new }
+    ensures same_vertices { SameTable vertices.old vertices.new }
+    ensures same_edges { SameTable edges.old edges.new }
 {
-    let e = compress::edge_at(edge_numbers, edge_floats, i);
-    let h = cut_edge::cut_held(e, c.t, n as u32);
-    let v = Vertex::Given {
-        x: c.x,
-        y: c.y,
-        z: c.z,
-    };
-    rows::put_vertex(vertex_numbers, vertex_floats, n, v);
-    rows::put_edge(edge_numbers, edge_floats, i, h.old);
-    rows::put_edge(edge_numbers, edge_floats, m, h.new);
+    let n = vertices.count;
+    let m = edges.count;
+    let h = cut_edge::cut_held(edges.view().at(i), c.t, n as u32);
+    vertices.put(
+        n,
+        Vertex::Given {
+            x: c.x,
+            y: c.y,
+            z: c.z,
+        },
+    );
+    edges.put(i, h.old);
+    edges.put(m, h.new);
 }

@@ -1,15 +1,25 @@
--- One wire of the search: where the second pair lies.
+-- One wire of the search: where the second pair lies, and the ways out of `turned_divisor`.
 -- Assumes nothing.
 use mathlib.Core.Path.{◌≡◌}
 use mathlib.Core.List.{List}
-use Prim.Native.Nat.{ℕ, ◌+◌, ◌≤◌, ◌<◌}
+use Prim.Native.Nat.{ℕ, ◌+◌, ◌*◌, ◌/◌, ◌≤◌, ◌<◌}
 use native.Mathlib.Omega.{arith}
-use lib.ListN.{length}
+use mir.Syntax.{w64}
+use mir.Val.{Fits}
+use borrow.Author.Tests.{lt-ltb, le-ltb}
+use lib.ListN.{length, get_or}
 use Rattle.std.specs.Prelude.{Option, Some, None}
 use Rattle.std.specs.Option.{unwrap_or}
+use Rattle.compress.specs.declared.Edge.{Edge}
+use Rattle.compress.specs.declared.Vertex.{Vertex}
+use Rattle.compress.specs.Records.{front_at}
+use Rattle.compress.specs.Said.{Said, refused}
+use Rattle.nearest.specs.declared.Ends.{Ends}
+use Rattle.nearest.specs.Ends.{nearest_ends}
 use Rattle.loops.specs.declared.Pair.{Pair}
 use Rattle.loops.specs.Loop.{first_repeat}
 use Rattle.loops.proofs.Repeats.{pair_in}
+use Rattle.divisor.specs.Divided.{half_up, second_pair, stretch, divided_by, turned_divisor}
 
 -- the second pair is in order and inside
 pub second_in : (w : List ℕ) (j0 : ℕ) (r : Option Pair) (s : Pair) → s ≡ unwrap_or r (record { earlier = j0; later = length w }) → r ≡ first_repeat (j0 + 1) w → j0 < length w
@@ -18,3 +28,18 @@ second_in w j0 None s e q lt = rw e (omega arith, omega arith)
 second_in w j0 (Some p) s e q lt =
     let f = pair_in w (j0 + 1) p (omega arith) q in
     rw e (f.1, omega (arith, f.2))
+
+-- ---- the two ways out, by the second place
+module _ (es : ℕ → Edge) (vs : ℕ → Vertex) (w : List ℕ) (j0 : ℕ) (s : Pair) (S : s ≡ second_pair (first_repeat (j0 + 1) w) j0 (length w)) where
+  pub past_end : length w ≤ half_up (s.earlier + s.later) → refused 8 ≡ turned_divisor es vs w j0
+  unfolding turned_divisor divided_by
+  past_end h = rw (← S, le-ltb _ _ h)
+
+  pub divided : (r : Said Ends) → half_up (s.earlier + s.later) < length w
+      → r ≡ nearest_ends es vs (front_at es (get_or w (half_up j0) 0)) (stretch w 1 j0) (stretch w (s.earlier + 1) s.later) → r ≡ turned_divisor es vs w j0
+  unfolding turned_divisor divided_by
+  divided r h q = rw (← S, lt-ltb _ _ h) q
+
+-- the place halfway to j, in a list that j is a place of
+pub half_fits : {j l : ℕ} → 0 < j → j < l → l ≤ 1024 → Fits w64 ((j + 1) / 2 * 4)
+half_fits some lt few = omega (arith, some, lt, few)

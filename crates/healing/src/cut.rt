@@ -3,6 +3,10 @@ ghost use Rattle.cutting.specs.Contract.{lent_of};
 ghost use Rattle.one_cut.specs.Contract.{cut_outcome};
 ghost use Rattle.healing.specs.Host.{HostShell};
 
+use cuts::LentCuts;
+use rows::lent::WiresMut;
+use rows::tables::TableMut;
+
 // Edge number `edge` is cut by the cuts in `cuts`, four floats each: parameter, x, y, z. No cut changes nothing, one cuts the edge and mends
 // every wire, in place, and two or more are refused (14). 0: done, and the three places hold the counts of vertices, edges and uses. Else the
 // number of the refusal, and nothing lent is changed.
@@ -26,21 +30,18 @@ pub extern "C" fn kaugrenna_cut_edge_by_intersections(
 ) -> i32
     ensures { HostShell (cut_outcome (lent_of vertex_numbers.old vertex_floats.old edge_numbers.old edge_floats.old uses.old lengths.old vertices edges wires) edge cuts.now cut_count) (record { vertices = vertices_out.old; edges = edges_out.old; uses = uses_out.old }) (record { vertices = vertices_out.new; edges = edges_out.new; uses = uses_out.new }) (record { vn = vertex_numbers.new; vf = vertex_floats.new; en = edge_numbers.new; ef = edge_floats.new; us = uses.new; ls = lengths.new }) result }
 {
-    let answer = one_cut::cut_edge_by_intersections(
-        vertex_numbers,
-        vertex_floats,
-        edge_numbers,
-        edge_floats,
+    let mut vs = TableMut::new(vertex_numbers, vertex_floats, vertices);
+    let mut es = TableMut::new(edge_numbers, edge_floats, edges);
+    let mut ws = WiresMut {
         uses,
         lengths,
-        cuts,
-        vertices,
-        edges,
-        wires,
-        edge,
-        cut_count,
-    );
-    match answer {
+        count: wires,
+    };
+    let cuts = LentCuts {
+        floats: cuts,
+        count: cut_count,
+    };
+    match one_cut::cut_edge_by_intersections(&mut vs, &mut es, &mut ws, edge, &cuts) {
         Ok(n) => {
             *vertices_out = n.vertices;
             *edges_out = n.edges;

@@ -2,6 +2,10 @@
 ghost use Rattle.join.specs.Contract.{join_outcome};
 ghost use Rattle.healing.specs.Host.{HostJoin};
 
+use join::OpenWire;
+use rows::lent::WiresMut;
+use rows::tables::Table;
+
 // The two open wires and the first new wire that holds v0 become one wire, which replaces that new wire, in place. 0: done, and the place holds
 // how many uses the new wires have now. -1: something is not found. Else the number of the refusal. After -1 and a refusal nothing lent is changed.
 #[unsafe(no_mangle)]
@@ -23,22 +27,21 @@ pub extern "C" fn kaugrenna_connect_open_boundaries(
 ) -> i32
     ensures { HostJoin (join_outcome edge_numbers.now edge_floats.now first.now second.now uses.old lengths.old vertices edges first_count second_count wires v0 v1) uses_out.old uses_out.new uses.new lengths.new result }
 {
-    let answer = join::connect_open_boundaries(
-        edge_numbers,
-        edge_floats,
-        first,
-        second,
+    let edges = Table::new(edge_numbers, edge_floats, edges);
+    let first = OpenWire {
+        uses: first,
+        count: first_count,
+    };
+    let second = OpenWire {
+        uses: second,
+        count: second_count,
+    };
+    let mut wires = WiresMut {
         uses,
         lengths,
-        vertices,
-        edges,
-        first_count,
-        second_count,
-        wires,
-        v0,
-        v1,
-    );
-    match answer {
+        count: wires,
+    };
+    match join::connect_open_boundaries(vertices, &edges, &first, &second, &mut wires, v0, v1) {
         Ok(Some(n)) => {
             *uses_out = n;
             0

@@ -1,4 +1,5 @@
 // The calls for hosts in C and Rust: numbers and slices, and an i32 for the answer. Here the closed-edge pass; the modules have the others.
+// In C each slice and each count is a parameter of its own: here they become tables and wires.
 #![tactic(auto)]
 
 mod cut;
@@ -11,6 +12,9 @@ mod splits;
 ghost use Rattle.cutting.specs.Contract.{lent_of};
 ghost use Rattle.split_closed_edges.specs.Contract.{outcome_of};
 ghost use Rattle.healing.specs.Host.{HostShell};
+
+use rows::lent::WiresMut;
+use rows::tables::TableMut;
 
 // Every closed edge is cut and every wire mended, in place. 0: done, and the three places hold the new counts of vertices, edges and uses.
 // Else the number of the refusal, and nothing lent is changed.
@@ -31,18 +35,14 @@ pub extern "C" fn kaugrenna_split_closed_edges(
 ) -> i32
     ensures { HostShell (outcome_of (lent_of vertex_numbers.old vertex_floats.old edge_numbers.old edge_floats.old uses.old lengths.old vertices edges wires)) (record { vertices = vertices_out.old; edges = edges_out.old; uses = uses_out.old }) (record { vertices = vertices_out.new; edges = edges_out.new; uses = uses_out.new }) (record { vn = vertex_numbers.new; vf = vertex_floats.new; en = edge_numbers.new; ef = edge_floats.new; us = uses.new; ls = lengths.new }) result }
 {
-    let answer = split_closed_edges::split_closed_edges(
-        vertex_numbers,
-        vertex_floats,
-        edge_numbers,
-        edge_floats,
+    let mut vs = TableMut::new(vertex_numbers, vertex_floats, vertices);
+    let mut es = TableMut::new(edge_numbers, edge_floats, edges);
+    let mut ws = WiresMut {
         uses,
         lengths,
-        vertices,
-        edges,
-        wires,
-    );
-    match answer {
+        count: wires,
+    };
+    match split_closed_edges::split_closed_edges(&mut vs, &mut es, &mut ws) {
         Ok(n) => {
             *vertices_out = n.vertices;
             *edges_out = n.edges;

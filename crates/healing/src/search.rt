@@ -5,7 +5,10 @@ ghost use Rattle.non_simple.specs.Divisor.{find_non_simple};
 ghost use Rattle.healing.specs.Host.{Told};
 
 use compress::Refusal;
+use correction::Stretch;
 use nearest::Ends;
+use rows::lent::Wires;
+use rows::tables::Table;
 
 // What a host is told of two vertices. 0: done, and the two places hold them. -1: there are none. Else the number of the refusal.
 fn tell(answer: Result<Option<Ends>, Refusal>, v0_out: &mut u32, v1_out: &mut u32) -> i32
@@ -42,19 +45,17 @@ pub extern "C" fn kaugrenna_nearest_correction(
 ) -> i32
     ensures { Told (nearest_correction vertex_numbers.now vertex_floats.now edge_numbers.now edge_floats.now first.now second.now vertices edges first_count second_count v0) (record { v0 = v0_out.old; v1 = v1_out.old }) (record { v0 = v0_out.new; v1 = v1_out.new }) result }
 {
-    let answer = correction::nearest_correction(
-        vertex_numbers,
-        vertex_floats,
-        edge_numbers,
-        edge_floats,
-        first,
-        second,
-        vertices,
-        edges,
-        first_count,
-        second_count,
-        v0,
-    );
+    let vertices = Table::new(vertex_numbers, vertex_floats, vertices);
+    let edges = Table::new(edge_numbers, edge_floats, edges);
+    let first = Stretch {
+        uses: first,
+        count: first_count,
+    };
+    let second = Stretch {
+        uses: second,
+        count: second_count,
+    };
+    let answer = correction::nearest_correction(&vertices, &edges, &first, &second, v0);
     tell(answer, v0_out, v1_out)
 }
 
@@ -76,16 +77,13 @@ pub extern "C" fn kaugrenna_find_non_simple_wire_divisor(
 ) -> i32
     ensures { Told (find_non_simple vertex_numbers.now vertex_floats.now edge_numbers.now edge_floats.now uses.now lengths.now vertices edges wires) (record { v0 = v0_out.old; v1 = v1_out.old }) (record { v0 = v0_out.new; v1 = v1_out.new }) result }
 {
-    let answer = non_simple::find_non_simple_wire_divisor(
-        vertex_numbers,
-        vertex_floats,
-        edge_numbers,
-        edge_floats,
+    let vertices = Table::new(vertex_numbers, vertex_floats, vertices);
+    let edges = Table::new(edge_numbers, edge_floats, edges);
+    let wires = Wires {
         uses,
         lengths,
-        vertices,
-        edges,
-        wires,
-    );
+        count: wires,
+    };
+    let answer = non_simple::find_non_simple_wire_divisor(&vertices, &edges, &wires);
     tell(answer, v0_out, v1_out)
 }

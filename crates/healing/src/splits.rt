@@ -3,6 +3,10 @@ ghost use Rattle.split_causes.specs.Causes.{lent_split};
 ghost use Rattle.split.specs.Contract.{split_outcome};
 ghost use Rattle.healing.specs.Host.{HostBoundaries};
 
+use rows::lent::Wires;
+use rows::tables::TableMut;
+use seams::Divisor;
+
 // The wires to be rebuilt are rebuilt along the divisor, a list of vertices with their uv points, two floats each: the new edges are appended to the
 // edge table, and the answered wires go to `uses` and `lengths`. 0: done, and the three places hold the counts of wires, of their uses and of
 // edges. Else the number of the refusal, and nothing lent is changed.
@@ -28,27 +32,32 @@ pub extern "C" fn kaugrenna_split_boundaries_by_divisor(
     uses_out: &mut usize,
     edges_out: &mut usize,
 ) -> i32
-    ensures { HostBoundaries (split_outcome (lent_split edge_numbers.old edge_floats.old face_uses.now face_lengths.now rebuilt_uses.now rebuilt_lengths.now divisor.now points.now uses.old lengths.old vertices edges face_wires rebuilt_wires divisor_count surface)) (record { wires = wires_out.old; uses = uses_out.old; edges = edges_out.old }) (record { wires = wires_out.new; uses = uses_out.new; edges = edges_out.new }) (record { en = edge_numbers.new; ef = edge_floats.new; us = uses.new; ls = lengths.new }) result }
+    ensures { HostBoundaries
+        (split_outcome (lent_split edge_numbers.old edge_floats.old face_uses.now face_lengths.now rebuilt_uses.now rebuilt_lengths.now
+        divisor.now points.now uses.old lengths.old vertices edges face_wires rebuilt_wires divisor_count surface))
+        (record { wires = wires_out.old; uses = uses_out.old; edges = edges_out.old })
+        (record { wires = wires_out.new; uses = uses_out.new; edges = edges_out.new })
+        (record { en = edge_numbers.new; ef = edge_floats.new; us = uses.new; ls = lengths.new }) result }
 {
-    let answer = split::split_boundaries_by_divisor(
-        edge_numbers,
-        edge_floats,
-        face_uses,
-        face_lengths,
-        rebuilt_uses,
-        rebuilt_lengths,
-        divisor,
+    let mut table = TableMut::new(edge_numbers, edge_floats, edges);
+    let face = Wires {
+        uses: face_uses,
+        lengths: face_lengths,
+        count: face_wires,
+    };
+    let rebuilt = Wires {
+        uses: rebuilt_uses,
+        lengths: rebuilt_lengths,
+        count: rebuilt_wires,
+    };
+    let divisor = Divisor {
+        vertices: divisor,
         points,
-        uses,
-        lengths,
-        vertices,
-        edges,
-        face_wires,
-        rebuilt_wires,
-        divisor_count,
-        surface,
-    );
-    match answer {
+        count: divisor_count,
+    };
+    match split::split_boundaries_by_divisor(
+        vertices, &mut table, &face, &rebuilt, &divisor, uses, lengths, surface,
+    ) {
         Ok(made) => {
             *wires_out = made.wires;
             *uses_out = made.uses;

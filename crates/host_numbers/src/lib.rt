@@ -43,7 +43,7 @@ pub fn copy_asked(
     periodic::nearest_copy(p, q, up, vp)
 }
 
-// The number of a refusal, as a host is told it.
+// The number of a refusal, as a host is told it. A function and no From: the exports then read as in C, and each of them calls it.
 pub fn refusal_code(r: Refusal) -> i32
     ensures { result ≡ pos (refusal_number r) }
 {

@@ -10,17 +10,22 @@ use lib.ListN.{length, take}
 use lib.Seq.{get_or-take, length-take-le}
 use lib.Ieee.{Float}
 use Rattle.compress.specs.Rows.{edge_at}
-use Rattle.compress.specs.Wires.{total, wires_of}
+use Rattle.compress.specs.Wires.{total}
 use Rattle.checks.specs.Causes.{when, count_cause, vertex_number_cause, edges_cause, uses_cause}
 use Rattle.checks.proofs.Accepted.{EdgesAccepted, passed, not_when, edges_accepted, uses_in}
 use Rattle.checks.proofs.Lowest.{lower_none}
 use Rattle.std.specs.Prelude.{Err}
 use Rattle.compress.specs.declared.Refusal.{Refusal}
+use Rattle.compress.specs.declared.Edge.{Edge}
+use Rattle.rows.specs.Held.{wires_held}
+use Rattle.rows.specs.declared.tables.Table.{Table}
+use Rattle.rows.specs.declared.lent.WiresMut.{WiresMut}
+use Rattle.join.specs.declared.OpenWire.{OpenWire}
 use Rattle.compress.specs.Refusals.{refusal_number}
 use Rattle.compress.proofs.Refused.{said_refused, said_checked}
 use Rattle.join.specs.Contract.{join_wires_cause, empty_cause, join_cause, join_outcome}
 use Rattle.join.specs.Join.{connected}
-use Rattle.joined.specs.Outcome.{JoinOutcome, leaves_join, join_leaves}
+use Rattle.joined.specs.Outcome.{JoinOutcome, left, left_by}
 use Rattle.laying.specs.Steps.{Readable}
 use Rattle.joined.specs.Steps.{Joinable}
 
@@ -32,13 +37,43 @@ uses_rows v en ef e us n A h q k lt =
     let u = uses_in e us n k q g in
     rw (get_or-take n us k 0 g) (omega (arith, A.numbers), omega (arith, A.floats))
 
-module _ (en : List ℕ) (ef : List Float) (a b us ls : List ℕ) (v e n m k v0 v1 : ℕ) where
+module _ (edges : Table Edge) (first second : OpenWire) (w : WiresMut) (v v0 v1 : ℕ) where
+  abbrev en : List ℕ
+  en = edges.numbers.now
+
+  abbrev ef : List Float
+  ef = edges.floats.now
+
+  abbrev e : ℕ
+  e = edges.count
+
+  abbrev a : List ℕ
+  a = first.uses.now
+
+  abbrev n : ℕ
+  n = first.count
+
+  abbrev b : List ℕ
+  b = second.uses.now
+
+  abbrev m : ℕ
+  m = second.count
+
+  abbrev us : List ℕ
+  us = w.uses.now
+
+  abbrev ls : List ℕ
+  ls = w.lengths.now
+
+  abbrev k : ℕ
+  k = w.count
+
   pub record JoinAccepted : Type 0 where
     pub first_size : length (take n a) ≡ n
     pub second_size : length (take m b) ≡ m
     pub first_some : 0 < length (take n a)
     pub second_some : 0 < length (take m b)
-    pub joinable : Joinable en ef (take n a) (take m b) us ls k
+    pub joinable : Joinable edges (take n a) (take m b) w
 
   pub join_accepted : join_cause en ef a b us ls v e n m k v0 v1 ≡ 0 → JoinAccepted
   unfolding join_cause join_wires_cause empty_cause
@@ -81,14 +116,13 @@ module _ (en : List ℕ) (ef : List Float) (a b us ls : List ℕ) (v e n m k v0 
         };
       }
 
--- the call: a refusal leaves both slices as they were, and without one it leaves what the join of the open wires leaves
-pub join_refused : (en : List ℕ) (ef : List Float) (a b us ls : List ℕ) (v e n m k v0 v1 : ℕ) (r : Refusal) → refusal_number r ≡ join_cause en ef a b us ls v e n m k v0 v1
-    → leaves_join (Err r) us ls ≡ join_outcome en ef a b us ls v e n m k v0 v1
-unfolding join_outcome
-join_refused en ef a b us ls v e n m k v0 v1 r q = ap (join_leaves us ls) (said_refused r _ _ q)
+  -- the call: a refusal leaves the wires as they were, and without one it leaves what the join of the open wires leaves
+  pub join_refused : (r : Refusal) → refusal_number r ≡ join_cause en ef a b us ls v e n m k v0 v1
+      → left (Err r) w ≡ join_outcome en ef a b us ls v e n m k v0 v1
+  unfolding join_outcome
+  join_refused r q = ap (left_by w) (said_refused r _ _ q)
 
-pub join_told : (en : List ℕ) (ef : List Float) (a b us ls : List ℕ) (v e n m k v0 v1 : ℕ) {o : JoinOutcome} → 0 ≡ join_cause en ef a b us ls v e n m k v0 v1
-    → o ≡ join_leaves us ls (connected (edge_at en ef) v0 v1 (take n a) (take m b) (wires_of us (take k ls)))
-    → o ≡ join_outcome en ef a b us ls v e n m k v0 v1
-unfolding join_outcome
-join_told en ef a b us ls v e n m k v0 v1 q t = t ∙ ap (join_leaves us ls) (said_checked _ _ q)
+  pub join_told : {o : JoinOutcome} → 0 ≡ join_cause en ef a b us ls v e n m k v0 v1
+      → o ≡ left_by w (connected (edge_at en ef) v0 v1 (take n a) (take m b) (wires_held w)) → o ≡ join_outcome en ef a b us ls v e n m k v0 v1
+  unfolding join_outcome
+  join_told q t = t ∙ ap (left_by w) (said_checked _ _ q)

@@ -1,153 +1,115 @@
 // Document 01's "Join" (`connect_open_boundaries`): two open wires and one of the new wires become one wire.
 #![tactic(auto)]
 
-ghost use Rattle.std.specs.Prelude.{◌≡◌, ◌≤◌, ◌<◌, length, take};
+ghost use Rattle.std.specs.Prelude.{◌≡◌, ◌≤◌, ◌<◌, length};
 ghost use Rattle.compress.specs.Refusals.{cause_of};
 ghost use Rattle.compress.specs.Rows.{edge_at};
-ghost use Rattle.compress.specs.Wires.{wires_of};
-ghost use Rattle.joined.specs.Outcome.{leaves_join, join_leaves};
+ghost use Rattle.rows.specs.Held.{wires_held};
+ghost use Rattle.rows.specs.Places.{SameWires};
+ghost use Rattle.joined.specs.Outcome.{left, left_by};
 ghost use Rattle.joined.specs.Steps.{Joinable};
 ghost use Rattle.join.specs.Join.{connected_at, connected};
 ghost use Rattle.join.specs.Contract.{join_wires_cause, empty_cause, join_cause, join_outcome};
 
-use compress::{Checked, Refusal};
+use compress::{Checked, Edge, Refusal};
+use laying::TurnedWire;
+use rows::lent::{Wires, WiresMut};
+use rows::tables::Table;
+
+// An open wire, as a host lends it: the front of a slice, of so many uses. Nothing is checked of it here.
+#[derive(Clone, Copy)]
+pub struct OpenWire<'a> {
+    pub uses: &'a [u32],
+    pub count: usize,
+}
 
 // By index, the place of v0 in the open wire that holds it: where it is not 0, the two open wires change places.
 fn connect_at(
-    edge_numbers: &[u32],
-    edge_floats: &[f64],
+    edges: &Table<Edge>,
     first: &[u32],
     second: &[u32],
-    uses: &mut [u32],
-    lengths: &mut [u32],
-    wires: usize,
+    wires: &mut WiresMut,
     v0: u32,
     v1: u32,
     i: usize,
     index: usize,
 ) -> Result<Option<usize>, Refusal>
-    requires { (Joinable edge_numbers.now edge_floats.now first.now second.now uses.old lengths.old wires) × (i ≤ length first.now) × (i ≤ length second.now) }
-    ensures { leaves_join result uses.new lengths.new ≡ join_leaves uses.old lengths.old (connected_at (edge_at edge_numbers.now edge_floats.now) v0 v1 first.now second.now (wires_of uses.old (take wires lengths.old)) i index) }
+    requires joinable { Joinable edges.now first.now second.now wires.old }
+    requires i_in_bounds { (i ≤ length first.now) × (i ≤ length second.now) }
+    ensures outcome { let es = edge_at edges.now.numbers.now edges.now.floats.now in
+        left result wires.new ≡ left_by wires.old (connected_at es v0 v1 first.now second.now (wires_held wires.old) i index) }
+    ensures same { SameWires wires.old wires.new }
 {
     if index == 0 {
-        return joined::join_turned(
-            edge_numbers,
-            edge_floats,
-            first,
-            i,
-            second,
-            uses,
-            lengths,
-            wires,
-            v0,
-            v1,
-        );
+        let first = TurnedWire { wire: first, by: i };
+        return joined::join_turned(edges, &first, second, wires, v0, v1);
     }
-    joined::join_turned(
-        edge_numbers,
-        edge_floats,
-        second,
-        i,
-        first,
-        uses,
-        lengths,
-        wires,
-        v0,
-        v1,
-    )
+    let second = TurnedWire {
+        wire: second,
+        by: i,
+    };
+    joined::join_turned(edges, &second, first, wires, v0, v1)
 }
 
 // The join of an input that has no cause.
 fn connect_checked(
-    edge_numbers: &[u32],
-    edge_floats: &[f64],
+    edges: &Table<Edge>,
     first: &[u32],
     second: &[u32],
-    uses: &mut [u32],
-    lengths: &mut [u32],
-    wires: usize,
+    wires: &mut WiresMut,
     v0: u32,
     v1: u32,
 ) -> Result<Option<usize>, Refusal>
-    requires { (Joinable edge_numbers.now edge_floats.now first.now second.now uses.old lengths.old wires) × (0 < length first.now) × (0 < length second.now) }
-    ensures { leaves_join result uses.new lengths.new ≡ join_leaves uses.old lengths.old (connected (edge_at edge_numbers.now edge_floats.now) v0 v1 first.now second.now (wires_of uses.old (take wires lengths.old))) }
+    requires joinable { Joinable edges.now first.now second.now wires.old }
+    requires not_empty { (0 < length first.now) × (0 < length second.now) }
+    ensures outcome { let es = edge_at edges.now.numbers.now edges.now.floats.now in
+        left result wires.new ≡ left_by wires.old (connected es v0 v1 first.now second.now (wires_held wires.old)) }
+    ensures same { SameWires wires.old wires.new }
 {
-    let p = laying::find_index(edge_numbers, edge_floats, first, v0);
-    if p < first.len() {
-        return connect_at(
-            edge_numbers,
-            edge_floats,
-            first,
-            second,
-            uses,
-            lengths,
-            wires,
-            v0,
-            v1,
-            0,
-            p,
-        );
+    if let Some(index) = laying::find_index(edges, first, v0) {
+        return connect_at(edges, first, second, wires, v0, v1, 0, index);
     }
-    let q = laying::find_index(edge_numbers, edge_floats, second, v0);
-    if q < second.len() {
-        return connect_at(
-            edge_numbers,
-            edge_floats,
-            first,
-            second,
-            uses,
-            lengths,
-            wires,
-            v0,
-            v1,
-            1,
-            q,
-        );
+    if let Some(index) = laying::find_index(edges, second, v0) {
+        return connect_at(edges, first, second, wires, v0, v1, 1, index);
     }
     Ok(None)
 }
 
 // Causes 1 and 3 of all wires of a join.
-fn join_wires_cause(
-    edges: usize,
-    first: &[u32],
-    n: usize,
-    second: &[u32],
-    m: usize,
-    uses: &[u32],
-    lengths: &[u32],
-    wires: usize,
-) -> Checked
-    ensures { cause_of result ≡ join_wires_cause edges first.now n second.now m uses.now lengths.now wires }
+fn join_wires_cause(edges: usize, first: &OpenWire, second: &OpenWire, wires: &Wires) -> Checked
+    ensures { let a = first.now in
+        let b = second.now in
+        let w = wires.now in
+        cause_of result ≡ join_wires_cause edges a.uses.now a.count b.uses.now b.count w.uses.now w.lengths.now w.count }
 {
-    if wires > 62 {
+    if wires.count > 62 {
         return Err(Refusal::Malformed);
     }
-    if lengths.len() < wires {
+    if wires.lengths.len() < wires.count {
         return Err(Refusal::Malformed);
     }
-    if first.len() < n {
+    if first.uses.len() < first.count {
         return Err(Refusal::Malformed);
     }
-    if second.len() < m {
+    if second.uses.len() < second.count {
         return Err(Refusal::Malformed);
     }
-    if n > 1024 {
+    if first.count > 1024 {
         return Err(Refusal::Malformed);
     }
-    if m > 1024 - n {
+    if second.count > 1024 - first.count {
         return Err(Refusal::Malformed);
     }
-    let sum = checks::total_uses(lengths, wires);
-    if sum > 1024 - n - m {
+    let sum = checks::total_uses(&wires.lengths[..wires.count]);
+    if sum > 1024 - first.count - second.count {
         return Err(Refusal::Malformed);
     }
-    if uses.len() < sum {
+    if wires.uses.len() < sum {
         return Err(Refusal::Malformed);
     }
-    let a = checks::use_rows(edges, first, n);
-    let b = checks::use_rows(edges, second, m);
-    checks::lower(a, checks::lower(b, checks::use_rows(edges, uses, sum)))
+    let a = checks::uses(edges, &first.uses[..first.count]);
+    let b = checks::uses(edges, &second.uses[..second.count]);
+    checks::lower(a, checks::lower(b, checks::uses(edges, &wires.uses[..sum])))
 }
 
 fn empty_cause(n: usize, m: usize) -> Checked
@@ -160,37 +122,27 @@ fn empty_cause(n: usize, m: usize) -> Checked
 }
 
 fn join_cause(
-    edge_numbers: &[u32],
-    edge_floats: &[f64],
-    first: &[u32],
-    second: &[u32],
-    uses: &[u32],
-    lengths: &[u32],
     vertices: usize,
-    edges: usize,
-    first_count: usize,
-    second_count: usize,
-    wires: usize,
+    edges: &Table<Edge>,
+    first: &OpenWire,
+    second: &OpenWire,
+    wires: &Wires,
     v0: u32,
     v1: u32,
 ) -> Checked
-    ensures { cause_of result ≡ join_cause edge_numbers.now edge_floats.now first.now second.now uses.now lengths.now vertices edges first_count second_count wires v0 v1 }
+    ensures { let e = edges.now in
+        let a = first.now in
+        let b = second.now in
+        let w = wires.now in
+        cause_of result ≡ join_cause e.numbers.now e.floats.now a.uses.now b.uses.now w.uses.now w.lengths.now
+        vertices e.count a.count b.count w.count v0 v1 }
 {
     let v = checks::count(4096, vertices);
-    let e = tables::edges(vertices, edge_numbers, edge_floats, edges);
+    let e = tables::edges(vertices, edges);
     let a = checks::vertex_number(vertices, v0);
     let b = checks::vertex_number(vertices, v1);
-    let w = join_wires_cause(
-        edges,
-        first,
-        first_count,
-        second,
-        second_count,
-        uses,
-        lengths,
-        wires,
-    );
-    let empty = empty_cause(first_count, second_count);
+    let w = join_wires_cause(edges.count, first, second, wires);
+    let empty = empty_cause(first.count, second.count);
     let of_wires = checks::lower(w, empty);
     checks::lower(
         v,
@@ -200,46 +152,24 @@ fn join_cause(
 
 // `connect_open_boundaries`: the new wires are updated in place, with their lengths. "None" and a refusal change nothing lent.
 pub fn connect_open_boundaries(
-    edge_numbers: &[u32],
-    edge_floats: &[f64],
-    first: &[u32],
-    second: &[u32],
-    uses: &mut [u32],
-    lengths: &mut [u32],
     vertices: usize,
-    edges: usize,
-    first_count: usize,
-    second_count: usize,
-    wires: usize,
+    edges: &Table<Edge>,
+    first: &OpenWire,
+    second: &OpenWire,
+    wires: &mut WiresMut,
     v0: u32,
     v1: u32,
 ) -> Result<Option<usize>, Refusal>
-    ensures { leaves_join result uses.new lengths.new ≡ join_outcome edge_numbers.now edge_floats.now first.now second.now uses.old lengths.old vertices edges first_count second_count wires v0 v1 }
+    ensures outcome { let e = edges.now in
+        let a = first.now in
+        let b = second.now in
+        let w = wires.old in
+        left result wires.new ≡ join_outcome e.numbers.now e.floats.now a.uses.now b.uses.now w.uses.now w.lengths.now
+        vertices e.count a.count b.count w.count v0 v1 }
+    ensures same { SameWires wires.old wires.new }
 {
-    join_cause(
-        edge_numbers,
-        edge_floats,
-        first,
-        second,
-        uses,
-        lengths,
-        vertices,
-        edges,
-        first_count,
-        second_count,
-        wires,
-        v0,
-        v1,
-    )?;
-    connect_checked(
-        edge_numbers,
-        edge_floats,
-        &first[..first_count],
-        &second[..second_count],
-        uses,
-        lengths,
-        wires,
-        v0,
-        v1,
-    )
+    join_cause(vertices, edges, first, second, &wires.view(), v0, v1)?;
+    let n = first.count;
+    let m = second.count;
+    connect_checked(edges, &first.uses[..n], &second.uses[..m], wires, v0, v1)
 }

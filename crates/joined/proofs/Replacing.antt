@@ -1,6 +1,6 @@
 -- One of several wires replaced, as it is written: what stands before it, the new wire, and what stood behind it.
 -- Assumes nothing.
-use mathlib.Core.Path.{◌≡◌, refl, ap, sym, ◌∙◌}
+use mathlib.Core.Path.{◌≡◌, refl, sym, ◌∙◌}
 use mathlib.Core.Bool.{true, false}
 use mathlib.Core.List.{List, [], ◌∷◌, ◌++◌, append_assoc}
 use Prim.Native.Nat.{ℕ, zero, suc, ◌+◌, ◌-◌, ◌≤◌, ◌<◌}
@@ -24,14 +24,6 @@ total_split [] zero = refl
 total_split [] (suc w) = refl
 total_split (m ∷ L) zero = omega arith
 total_split (m ∷ L) (suc w) = omega (arith, total_split L w)
-
-length_wires : (us L : List ℕ) → length (wires_of us L) ≡ length L
-unfolding wires_of
-length_wires us [] = refl
-length_wires us (m ∷ L) = ap suc (length_wires (drop m us) L)
-
-pub wire_count : (us ls : List ℕ) (n : ℕ) → n ≤ length ls → length (wires_of us (take n ls)) ≡ n
-wire_count us ls n h = length_wires us (take n ls) ∙ length-take-le n ls h
 
 uses_all : (us L : List ℕ) → uses_of (wires_of us L) ≡ take (total L) us
 unfolding wires_of uses_of total

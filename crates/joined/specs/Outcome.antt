@@ -5,6 +5,7 @@ use Rattle.compress.specs.Records.{pick}
 use Rattle.compress.specs.Said.{Said, result, none, refused, said_of, said_if}
 use Rattle.compress.specs.Shell.{uses_fit}
 use Rattle.compress.specs.Wires.{uses_of, lengths_of, over}
+use Rattle.rows.specs.declared.lent.WiresMut.{WiresMut}
 
 -- what a call leaves: its answer, and the contents of the uses and the lengths of the new wires
 pub record JoinOutcome : Type 0 where
@@ -31,3 +32,10 @@ abbrev pub join_leaves : List ℕ → List ℕ → Said (List (List ℕ)) → Jo
 join_leaves us ls (result ws) = stored_in us ls ws
 join_leaves us ls none = record { said = none; us = us; ls = ls }
 join_leaves us ls (refused n) = record { said = refused n; us = us; ls = ls }
+
+-- the same, said of the wires as a struct: what a call leaves, and what it leaves by what is said of the wires that it was lent
+abbrev pub left : Result (Option ℕ) Refusal → WiresMut → JoinOutcome
+left r w = leaves_join r w.uses.now w.lengths.now
+
+abbrev pub left_by : WiresMut → Said (List (List ℕ)) → JoinOutcome
+left_by w s = join_leaves w.uses.now w.lengths.now s

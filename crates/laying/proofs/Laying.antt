@@ -6,17 +6,16 @@ use Prim.Native.Nat.{ℕ, ◌+◌, ◌-◌, ◌*◌, ◌/◌, ◌%◌, ◌≤◌
 use native.Mathlib.Omega.{arith}
 use native.Mathlib.Decide.{dec_lt}
 use native.Mathlib.Nat.{mod-lt}
-use borrow.Author.Tests.{lt-ltb, le-ltb, ne_eqb}
 use lib.ListN.{length, get_or, take, drop, length-append, length-drop, drop_of_length-le, get_or-append}
 use lib.Seq.{take_all, drop-drop, take_at, drop_at, drop-append-add, get_or-append-add, length-take-le}
 use lib.Ieee.{Float}
 use Rattle.compress.specs.declared.Edge.{Edge}
 use Rattle.compress.specs.Rows.{edge_at}
-use Rattle.compress.specs.Said.{none}
+use Rattle.compress.specs.Said.{result, none}
 use Rattle.wires.specs.Turn.{turned}
 use Rattle.wires.proofs.Turns.{length_turned, get_or_turned}
-use Rattle.laying.specs.Places.{index_of, closed_by}
-use Rattle.laying.specs.Steps.{Readable, laid}
+use Rattle.laying.specs.Places.{index_of, place_in, closed_by}
+use Rattle.laying.specs.Steps.{Readable}
 use Rattle.laying.proofs.Places.{index_le}
 
 -- a part from `at` on was lent, and came back with p written over its front
@@ -80,49 +79,29 @@ module _ (en : List ℕ) (ef : List Float) where
           rw (p, get_or-append-add a b (k - length a) 0) (rb (k - length a) g)
 
 -- ---- the second half of the joined wire
-module _ (es : ℕ → Edge) (v : ℕ) (wire second : List ℕ) (l : ℕ) (q : l ≡ index_of es v wire) where
-  pub closed_none : length wire ≤ l → none ≡ closed_by es v wire second
+module _ (es : ℕ → Edge) (v : ℕ) (wire second : List ℕ) where
+  pub closed_none : none ≡ place_in es v wire → none ≡ closed_by es v wire second
   unfolding closed_by
-  closed_none h =
-      let g : length wire ≤ index_of es v wire = omega arith in
-      rw (le-ltb (index_of es v wire) (length wire) g)
+  closed_none q = rw (← q)
 
-  pub closed_found : l < length wire → (r : ℕ) (out : List ℕ) → 0 < r → take r out ≡ turned l wire ++ second → laid r out ≡ closed_by es v wire second
+  pub closed_found : (l r : ℕ) (out : List ℕ) → result l ≡ place_in es v wire → take r out ≡ turned l wire ++ second → result (take r out) ≡ closed_by es v wire second
   unfolding closed_by
-  closed_found h r out p e =
-      let g : index_of es v wire < length wire = omega arith in
-      let n : r ≡ 0 → ⊥ = λ z. omega arith in
-      rw (lt-ltb (index_of es v wire) (length wire) g, ← q, ← e, ne_eqb r 0 n)
-
--- the first n of a list that has as many as m are n
-pub front_count : {n m : ℕ} (l : List ℕ) → n ≤ m → length l ≡ m → n ≡ length (take n l)
-front_count {n} l h e = sym (length-take-le n l (omega arith))
+  closed_found l r out q e = rw (← q, e)
 
 -- ---- both halves: the first, with the wire behind it, is laid into the front of `opened`; the second is laid behind what is read there
 module _ (en : List ℕ) (ef : List Float) (first wire second opened : List ℕ) (turn v : ℕ) (h : turn ≤ length first)
     (e : take (length first + length wire) opened ≡ turned turn first ++ turned (index_of (edge_at en ef) v wire) wire) where
-  front_length : length (take (length first + length wire) opened) ≡ length first + length wire
+  pub front_length : length (take (length first + length wire) opened) ≡ length first + length wire
   front_length =
       rw (e, length-append)
       (omega (arith, length_turned turn first h, length_turned (index_of (edge_at en ef) v wire) wire (index_le (edge_at en ef) v wire)))
 
   -- what the second half asks
-  pub second_asks : (j o : ℕ) → (j ≤ length second) × (length first + length wire + length second ≤ 1024) × (o ≡ 1024)
-      → (Readable en ef first) × (Readable en ef wire)
-      → (j ≤ length second) × (length (take (length first + length wire) opened) + length second ≤ o) × (o ≤ 1024)
-      × Readable en ef (take (length first + length wire) opened)
-  second_asks j o p r =
+  pub second_asks : length first + length wire + length second ≤ 1024 → Readable en ef first → Readable en ef wire
+      → (length (take (length first + length wire) opened) + length second ≤ 1024) × Readable en ef (take (length first + length wire) opened)
+  second_asks few a b =
       let k = index_le (edge_at en ef) v wire in (
-        p.0,
-        omega (arith, p.1, p.2, front_length),
-        omega (arith, p.2),
-        rw e (append_rows en ef (turned turn first) (turned (index_of (edge_at en ef) v wire) wire) (turned_rows en ef turn first h r.0)
-            (turned_rows en ef (index_of (edge_at en ef) v wire) wire k r.1)),
+        omega (arith, front_length),
+        rw e (append_rows en ef (turned turn first) (turned (index_of (edge_at en ef) v wire) wire) (turned_rows en ef turn first h a)
+            (turned_rows en ef (index_of (edge_at en ef) v wire) wire k b)),
       )
-
-  -- what it leaves
-  pub second_leaves : (j v1 r : ℕ) (out : List ℕ) → length first + length wire + length second ≤ 1024
-      → (laid r out ≡ closed_by (edge_at en ef) v1 (take (length first + length wire) opened) (turned j second))
-      × (r ≤ length (take (length first + length wire) opened) + length second)
-      → (laid r out ≡ closed_by (edge_at en ef) v1 (turned turn first ++ turned (index_of (edge_at en ef) v wire) wire) (turned j second)) × (r ≤ 1024)
-  second_leaves j v1 r out few l = (rw e at l.0, omega (arith, l.1, front_length))

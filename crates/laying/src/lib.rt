@@ -1,180 +1,145 @@
 // Document 01's "Join": the places of a vertex in wires, and the joined wire laid into a buffer.
 #![tactic(auto)]
 
-ghost use Rattle.std.specs.Prelude.{◌≡◌, ◌++◌, ℕ, ◌+◌, ◌*◌, ◌/◌, ◌≤◌, ◌<◌, length, get_or, take, drop};
+ghost use Rattle.std.specs.Prelude.{◌≡◌, ◌++◌, ◌+◌, ◌≤◌, length, take, drop};
 ghost use Rattle.compress.specs.Rows.{edge_at};
-ghost use Rattle.compress.specs.Wires.{total, wires_of};
+ghost use Rattle.compress.specs.Wires.{total};
+ghost use Rattle.rows.specs.Held.{wires_in};
 ghost use Rattle.wires.specs.Turn.{turned};
-ghost use Rattle.laying.specs.Places.{index_of, wire_index_of, closed_by};
-ghost use Rattle.laying.specs.Steps.{Readable, Lying, laid};
+ghost use Rattle.laying.specs.Places.{found, index_of, place_in, holder_in, closed_by, joined_from};
+ghost use Rattle.laying.specs.Steps.{Readable, Lying, Layable, laid, laid_size};
+
+use compress::Edge;
+use rows::lent::Wires;
+use rows::tables::Table;
 
 // ---- places
 
-// `find_index`: how many uses stand before the first whose front is v, all of them where v is no front.
-pub fn find_index(edge_numbers: &[u32], edge_floats: &[f64], wire: &[u32], v: u32) -> usize
-    requires { (k : ℕ) → k < length wire.now → (get_or wire.now k 0 / 2 * 4 + 4 ≤ length edge_numbers.now) × (get_or wire.now k 0 / 2 * 6 + 6 ≤ length edge_floats.now) }
-    ensures { result ≡ index_of (edge_at edge_numbers.now edge_floats.now) v wire.now }
+// `find_index`: the place of the first use whose front is v.
+pub fn find_index(edges: &Table<Edge>, wire: &[u32], v: u32) -> Option<usize>
+    requires { Readable edges.now.numbers.now edges.now.floats.now wire.now }
+    ensures { found result ≡ place_in (edge_at edges.now.numbers.now edges.now.floats.now) v wire.now }
 {
-    let mut i: usize = 0;
-    while i < wire.len() {
-        if compress::front_at(edge_numbers, edge_floats, wire[i]) == v {
-            return i;
-        }
-        i += 1;
-    }
-    i
+    wire.iter().position(|&u| edges.front(u) == v)
 }
 
-// How many wires stand before the first that has v as a front, all of them where none has.
-pub fn find_wire(
-    edge_numbers: &[u32],
-    edge_floats: &[f64],
-    uses: &[u32],
-    lengths: &[u32],
-    wires: usize,
-    v: u32,
-) -> usize
-    requires { (Lying uses.now lengths.now wires) × (Readable edge_numbers.now edge_floats.now (take (total (take wires lengths.now)) uses.now)) }
-    ensures { result ≡ wire_index_of (edge_at edge_numbers.now edge_floats.now) v (wires_of uses.now (take wires lengths.now)) }
+// The place of the first wire that has v as a front.
+pub fn find_wire(edges: &Table<Edge>, wires: &Wires, v: u32) -> Option<usize>
+    requires lies { Lying wires.now.uses.now wires.now.lengths.now wires.now.count }
+    requires readable { let w = wires.now in
+        Readable edges.now.numbers.now edges.now.floats.now (take (total (take w.count w.lengths.now)) w.uses.now) }
+    ensures { found result ≡ holder_in (edge_at edges.now.numbers.now edges.now.floats.now) v (wires_in wires.now) }
 {
-    let mut w: usize = 0;
     let mut from: usize = 0;
-    while w < wires {
-        let to = from + lengths[w] as usize;
-        if find_index(edge_numbers, edge_floats, &uses[from..to], v) < to - from {
-            return w;
+    for w in 0..wires.count {
+        let to = from + wires.lengths[w] as usize;
+        if find_index(edges, &wires.uses[from..to], v).is_some() {
+            return Some(w);
         }
         from = to;
-        w += 1;
     }
-    w
+    None
 }
 
 // ---- the joined wire
 
-// The wire, turned so that its place `by` is 0, is written over `out` from place `at` on.
-fn lay_turned(wire: &[u32], by: usize, out: &mut [u32], at: usize)
-    requires { (by ≤ length wire.now) × (at + length wire.now ≤ length out.old) }
-    ensures { out.new ≡ take at out.old ++ (turned by wire.now ++ drop (at + length wire.now) out.old) }
-{
-    wires::rotate_left(wire, by, &mut out[at..]);
+// A wire, to be turned so that its place `by` is 0.
+#[derive(Clone, Copy)]
+pub struct TurnedWire<'a> {
+    pub wire: &'a [u32],
+    pub by: usize,
 }
 
-// The first open wire turned by i, and the new wire turned to v0 behind it, in the front of `out`.
-fn lay_first(
-    edge_numbers: &[u32],
-    edge_floats: &[f64],
-    first: &[u32],
-    i: usize,
-    wire: &[u32],
-    v0: u32,
-    out: &mut [u32],
-)
-    requires { (i ≤ length first.now) × (length first.now + length wire.now ≤ length out.old) × (length out.old ≤ 1024) × (Readable edge_numbers.now edge_floats.now wire.now) }
-    ensures { take (length first.now + length wire.now) out.new ≡ turned i first.now ++ turned (index_of (edge_at edge_numbers.now edge_floats.now) v0 wire.now) wire.now }
+// The turned wire is written over `out` from place `at` on.
+fn lay_turned(w: &TurnedWire, out: &mut [u32], at: usize)
+    requires { (w.now.by ≤ length w.now.wire.now) × (at + length w.now.wire.now ≤ length out.old) }
+    ensures { out.new ≡ take at out.old ++ (turned w.now.by w.now.wire.now ++ drop (at + length w.now.wire.now) out.old) }
 {
-    let k = find_index(edge_numbers, edge_floats, wire, v0);
-    lay_turned(first, i, out, 0);
-    lay_turned(wire, k, out, first.len());
+    wires::rotate_left(w.wire, w.by, &mut out[at..]);
 }
 
-// `wire` turned to v1, and the second open wire turned by j behind it, in the front of `out`.
-// The answer is the length, and 0 where v1 is not found.
+// The first open wire, and the new wire turned to v0 behind it, in the front of `out`.
+fn lay_first(edges: &Table<Edge>, first: &TurnedWire, wire: &[u32], v0: u32, out: &mut [u32])
+    requires turn_in_bounds { first.now.by ≤ length first.now.wire.now }
+    requires room { (length first.now.wire.now + length wire.now ≤ length out.old) × (length out.old ≤ 1024) }
+    requires readable { Readable edges.now.numbers.now edges.now.floats.now wire.now }
+    ensures { let k = index_of (edge_at edges.now.numbers.now edges.now.floats.now) v0 wire.now in
+        take (length first.now.wire.now + length wire.now) out.new ≡ turned first.now.by first.now.wire.now ++ turned k wire.now }
+{
+    // A wire that does not have v0 stays as it is; the join looks for one that does.
+    let by = find_index(edges, wire, v0).unwrap_or(wire.len());
+    lay_turned(first, out, 0);
+    lay_turned(&TurnedWire { wire, by }, out, first.wire.len());
+}
+
+// `wire` turned to v1, and the second open wire behind it, in the front of `out`. The answer is the length, where v1 is found.
 fn lay_second(
-    edge_numbers: &[u32],
-    edge_floats: &[f64],
+    edges: &Table<Edge>,
     wire: &[u32],
     v1: u32,
-    second: &[u32],
-    j: usize,
+    second: &TurnedWire,
     out: &mut [u32],
-) -> usize
-    requires { (j ≤ length second.now) × (length wire.now + length second.now ≤ length out.old) × (length out.old ≤ 1024) × (Readable edge_numbers.now edge_floats.now wire.now) }
-    ensures out_after { (laid result out.new ≡ closed_by (edge_at edge_numbers.now edge_floats.now) v1 wire.now (turned j second.now)) × (result ≤ length wire.now + length second.now) }
-    ensures out_unchanged { drop result out.new ≡ drop result out.old }
+) -> Option<usize>
+    requires turn_in_bounds { second.now.by ≤ length second.now.wire.now }
+    requires room { (length wire.now + length second.now.wire.now ≤ length out.old) × (length out.old ≤ 1024) }
+    requires readable { Readable edges.now.numbers.now edges.now.floats.now wire.now }
+    ensures out_after { let second_turned = turned second.now.by second.now.wire.now in
+        laid result out.new ≡ closed_by (edge_at edges.now.numbers.now edges.now.floats.now) v1 wire.now second_turned }
+    ensures size { laid_size result ≤ length wire.now + length second.now.wire.now }
+    ensures out_unchanged { drop (laid_size result) out.new ≡ drop (laid_size result) out.old }
 {
-    let n = wire.len();
-    let l = find_index(edge_numbers, edge_floats, wire, v1);
-    if l >= n {
-        return 0;
-    }
-    lay_turned(wire, l, out, 0);
-    lay_turned(second, j, out, n);
-    n + second.len()
+    let by = find_index(edges, wire, v1)?;
+    lay_turned(&TurnedWire { wire, by }, out, 0);
+    lay_turned(second, out, wire.len());
+    Some(wire.len() + second.wire.len())
 }
 
-// The first open wire turned by `turn`, the new wire turned to v0 behind it, all turned to v1, and the second open wire turned by j behind that.
-// The answer is the length, and 0 where v1 is not found.
+// The first open wire, the new wire turned to v0 behind it, all turned to v1, and the second open wire behind that, by way of `open`.
+// The answer is the length, where v1 is found.
 fn lay_through(
-    edge_numbers: &[u32],
-    edge_floats: &[f64],
-    first: &[u32],
-    turn: usize,
-    second: &[u32],
-    j: usize,
+    edges: &Table<Edge>,
+    first: &TurnedWire,
+    second: &TurnedWire,
     wire: &[u32],
     v0: u32,
     v1: u32,
     out: &mut [u32],
     open: &mut [u32],
-) -> usize
-    requires turn_in_bounds { (turn ≤ length first.now) × (j ≤ length second.now) × (length first.now + length wire.now + length second.now ≤ 1024) × (length out.old ≡ 1024) }
-    requires readable { (Readable edge_numbers.now edge_floats.now first.now) × (Readable edge_numbers.now edge_floats.now wire.now) }
-    requires wire_in_bounds { (length first.now + length wire.now ≤ length «open».old) × (length «open».old ≤ 1024) }
-    ensures out_after { (laid result out.new ≡ closed_by (edge_at edge_numbers.now edge_floats.now) v1 (turned turn first.now ++ turned (index_of (edge_at edge_numbers.now edge_floats.now) v0 wire.now) wire.now) (turned j second.now)) × (result ≤ 1024) }
-    ensures out_unchanged { drop result out.new ≡ drop result out.old }
+) -> Option<usize>
+    requires layable { Layable edges.now.numbers.now edges.now.floats.now first.now second.now wire.now }
+    requires out_size { length out.old ≡ 1024 }
+    requires room { (length first.now.wire.now + length wire.now ≤ length «open».old) × (length «open».old ≤ 1024) }
+    ensures out_after { let es = edge_at edges.now.numbers.now edges.now.floats.now in
+        laid result out.new ≡ joined_from es v0 v1 first.now second.now wire.now }
+    ensures size { laid_size result ≤ 1024 }
+    ensures out_unchanged { drop (laid_size result) out.new ≡ drop (laid_size result) out.old }
 {
-    lay_first(edge_numbers, edge_floats, first, turn, wire, v0, open);
-    let n = first.len() + wire.len();
-    lay_second(edge_numbers, edge_floats, &open[..n], v1, second, j, out)
+    lay_first(edges, first, wire, v0, open);
+    let n = first.wire.len() + wire.len();
+    lay_second(edges, &open[..n], v1, second, out)
 }
 
 // The same, by way of an array of its own: a small one where that has room, since to zero it takes time.
 pub fn lay_joined(
-    edge_numbers: &[u32],
-    edge_floats: &[f64],
-    first: &[u32],
-    turn: usize,
-    second: &[u32],
-    j: usize,
+    edges: &Table<Edge>,
+    first: &TurnedWire,
+    second: &TurnedWire,
     wire: &[u32],
     v0: u32,
     v1: u32,
     out: &mut [u32],
-) -> usize
-    requires turn_in_bounds { (turn ≤ length first.now) × (j ≤ length second.now) × (length first.now + length wire.now + length second.now ≤ 1024) × (length out.old ≡ 1024) }
-    requires readable { (Readable edge_numbers.now edge_floats.now first.now) × (Readable edge_numbers.now edge_floats.now wire.now) }
-    ensures out_after { (laid result out.new ≡ closed_by (edge_at edge_numbers.now edge_floats.now) v1 (turned turn first.now ++ turned (index_of (edge_at edge_numbers.now edge_floats.now) v0 wire.now) wire.now) (turned j second.now)) × (result ≤ 1024) }
-    ensures out_unchanged { drop result out.new ≡ drop result out.old }
+) -> Option<usize>
+    requires layable { Layable edges.now.numbers.now edges.now.floats.now first.now second.now wire.now }
+    requires out_size { length out.old ≡ 1024 }
+    ensures out_after { let es = edge_at edges.now.numbers.now edges.now.floats.now in
+        laid result out.new ≡ joined_from es v0 v1 first.now second.now wire.now }
+    ensures size { laid_size result ≤ 1024 }
+    ensures out_unchanged { drop (laid_size result) out.new ≡ drop (laid_size result) out.old }
 {
-    if first.len() + wire.len() <= 64 {
+    if first.wire.len() + wire.len() <= 64 {
         let mut open = [0u32; 64];
-        return lay_through(
-            edge_numbers,
-            edge_floats,
-            first,
-            turn,
-            second,
-            j,
-            wire,
-            v0,
-            v1,
-            out,
-            &mut open,
-        );
+        return lay_through(edges, first, second, wire, v0, v1, out, &mut open);
     }
     let mut open = [0u32; 1024];
-    lay_through(
-        edge_numbers,
-        edge_floats,
-        first,
-        turn,
-        second,
-        j,
-        wire,
-        v0,
-        v1,
-        out,
-        &mut open,
-    )
+    lay_through(edges, first, second, wire, v0, v1, out, &mut open)
 }

@@ -1,5 +1,6 @@
 -- The front, the back and the mark of a use, off the lent tables, and what the caller has checked of them. Definitions only.
 use Rattle.std.specs.Prelude.{ℕ, ◌+◌, ◌-◌, ◌*◌, ◌/◌, ◌%◌, ◌≤◌, ◌<◌, Bool, true, false, List, length, get_or, ltb}
+use Rattle.lists.specs.declared.AllEdges.{AllEdges}
 
 -- End j of edge e, 0 its first vertex number and 1 its second. "Fronts and backs are those of the lent edges and of the pairs": a lent edge is a
 -- row of four numbers, whose first two are the ends; from number `edges` on, an edge is a pair of vertices of the divisor.
@@ -32,3 +33,20 @@ pub record Sound (en ds : List ℕ) (edges : ℕ) (ms us : List ℕ) : Type 0 wh
   pub there : (i : ℕ) → i < length us → HasEnds en ds edges (get_or us i 0 / 2)
   pub small : (i j : ℕ) → i < length us → j < 2 → end_of en ds edges (get_or us i 0 / 2) j < 4096
   pub marks : (i : ℕ) → i < length us → get_or us i 0 / 2 < length ms
+
+-- ---- said of the struct
+abbrev pub front_in : AllEdges → ℕ → ℕ
+front_in e = front_of e.lent.numbers.now e.divisor.now e.lent.count
+
+abbrev pub back_in : AllEdges → ℕ → ℕ
+back_in e = back_of e.lent.numbers.now e.divisor.now e.lent.count
+
+abbrev pub EndsIn : AllEdges → ℕ → Type 0
+EndsIn all e = HasEnds all.lent.numbers.now all.divisor.now all.lent.count e
+
+abbrev pub SoundIn : AllEdges → List ℕ → List ℕ → Type 0
+SoundIn e ms us = Sound e.lent.numbers.now e.divisor.now e.lent.count ms us
+
+-- how many pairs the divisor has: "an odd last one makes no edge"
+abbrev pub pairs_in : AllEdges → ℕ
+pairs_in e = length e.divisor.now / 2

@@ -53,6 +53,12 @@ forgotten_zero (u ∷ us) table zero below lt =
 forgotten_zero (u ∷ us) table (suc k) below lt =
     forgotten_zero us (set table (edge_of_use u) 0) k (λ m h. grind (arith, length-set, below (suc m) (omega arith))) (omega arith)
 
+-- the table as it was lent, to that which the search leaves
+pub table_after_is : (wire : List ℕ) (from : ℕ) (lent start places : List ℕ) → start ≡ forgotten (drop from wire) lent → places ≡ remembered from (drop from wire) start
+    → places ≡ table_after from wire lent
+unfolding table_after
+table_after_is wire from lent start places f r = rw (← f) r
+
 -- ---- `find_loop`
 
 -- the search that is left at place i, one unfolding further

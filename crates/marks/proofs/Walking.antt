@@ -9,7 +9,7 @@ use native.Mathlib.Decide.{dec_lt}
 use borrow.Author.Tests.{ltb-true, ltb-false, leb-true, leb-false, ne_eqb, lt-ltb, le-ltb}
 use lib.Dec.{eqb, leb, ltb}
 use lib.ListN.{length, get_or, take, drop, replicate, length-append, length-drop, length-replicate, get_or-append, get_or-eq_default}
-use lib.Seq.{sets, take_all, take_at, get_or-append-add}
+use lib.Seq.{sets, take_at, get_or-append-add}
 use Rattle.compress.specs.Records.{pick}
 use Rattle.compress.proofs.Cells.{take_sets}
 use Rattle.lists.specs.Ends.{end_in, end_of, front_of, back_of, marked_of, Sound}
@@ -65,13 +65,11 @@ module _ (en : List ℕ) (edges : ℕ) (face rebuilt ds : List ℕ) (pairs : ℕ
   pub length_walk : length to_walk ≡ length rebuilt + pairs * 2
   length_walk = length-append rebuilt (new_uses edges pairs) ∙ rw (length_new_uses edges pairs)
 
-  pub uses_laid : (zs us₁ us₂ : List ℕ) (m : ℕ) → length zs ≡ 1024 → us₁ ≡ take (length rebuilt) rebuilt ++ drop (length rebuilt) zs
+  pub uses_laid : (zs us₁ us₂ : List ℕ) (m : ℕ) → length zs ≡ 1024 → us₁ ≡ rebuilt ++ drop (length rebuilt) zs
       → us₂ ≡ sets us₁ (length rebuilt) (new_uses edges pairs) → m ≡ length rebuilt + pairs * 2 → take m us₂ ≡ to_walk
   uses_laid zs us₁ us₂ m lz e₁ e₂ q =
-      let all : take (length rebuilt) rebuilt ≡ rebuilt = take_all (length rebuilt) rebuilt (omega arith) in
-      let f : us₁ ≡ rebuilt ++ drop (length rebuilt) zs = e₁ ∙ rw all in
-      let l₁ : length us₁ ≡ 1024 = rw f (length-append rebuilt (drop (length rebuilt) zs) ∙ rw length-drop (omega (arith, W.few))) in
-      let t : take (length rebuilt) us₁ ≡ rebuilt = rw f (take_at rebuilt (drop (length rebuilt) zs) (length rebuilt) refl) in
+      let l₁ : length us₁ ≡ 1024 = rw e₁ (length-append rebuilt (drop (length rebuilt) zs) ∙ rw length-drop (omega (arith, W.few))) in
+      let t : take (length rebuilt) us₁ ≡ rebuilt = rw e₁ (take_at rebuilt (drop (length rebuilt) zs) (length rebuilt) refl) in
       let p : m ≡ length rebuilt + length (new_uses edges pairs) = q ∙ rw (length_new_uses edges pairs) in
       rw (e₂, p) (take_sets us₁ (new_uses edges pairs) (length rebuilt) (omega (arith, length_new_uses edges pairs, W.few, l₁)) ∙ rw t)
 
@@ -116,7 +114,7 @@ module _ (en : List ℕ) (edges : ℕ) (face rebuilt ds : List ℕ) (pairs : ℕ
 
 -- The same as the code has it: the uses are laid in a table of 1024 zeros.
 module _ {en face rebuilt ds : List ℕ} {edges pairs : ℕ} (W : Walkable en edges face rebuilt ds pairs) {us₁ us₂ : List ℕ}
-    (e₁ : us₁ ≡ take (length rebuilt) rebuilt ++ drop (length rebuilt) (replicate {A = ℕ} 1024 0))
+    (e₁ : us₁ ≡ rebuilt ++ drop (length rebuilt) (replicate {A = ℕ} 1024 0))
     (e₂ : us₂ ≡ sets us₁ (length rebuilt) (new_uses edges pairs)) where
   laid : take (length rebuilt + pairs * 2) us₂ ≡ to_walk en edges face rebuilt ds pairs W
   laid = uses_laid en edges face rebuilt ds pairs W (replicate {A = ℕ} 1024 0) us₁ us₂ _ (length-replicate {A = ℕ} 1024 0) e₁ e₂ refl

@@ -1,6 +1,7 @@
 -- What the walk of a split asks of the lent slices, and what it answers off them. Definitions only.
 use Rattle.std.specs.Prelude.{◌≡◌, List, ◌++◌, ℕ, ◌+◌, ◌*◌, ◌/◌, ◌≤◌, ◌<◌, length, get_or}
-use Rattle.lists.specs.Ends.{front_of, back_of}
+use Rattle.lists.specs.declared.AllEdges.{AllEdges}
+use Rattle.lists.specs.Ends.{front_of, back_of, pairs_in}
 use Rattle.walk.specs.Walk.{Answer}
 use Rattle.walk.specs.Walk as walk
 use Rattle.marks.specs.Marks.{new_uses, marked_by}
@@ -20,3 +21,10 @@ pub record Walkable (en : List ℕ) (edges : ℕ) (face rebuilt ds : List ℕ) (
 -- the walk, with fronts and backs off the lent slices
 unfoldable pub lent_walk : List ℕ → ℕ → List ℕ → List ℕ → List ℕ → ℕ → Answer
 lent_walk en edges face rebuilt ds pairs = walk.walk (front_of en ds edges) (back_of en ds edges) (marked_by face edges pairs) (rebuilt ++ new_uses edges pairs)
+
+-- ---- said of the struct, with a pair of the divisor for each new edge
+abbrev pub WalkableIn : AllEdges → List ℕ → List ℕ → Type 0
+WalkableIn e face rebuilt = Walkable e.lent.numbers.now e.lent.count face rebuilt e.divisor.now (pairs_in e)
+
+abbrev pub walk_all : AllEdges → List ℕ → List ℕ → Answer
+walk_all e face rebuilt = lent_walk e.lent.numbers.now e.lent.count face rebuilt e.divisor.now (pairs_in e)

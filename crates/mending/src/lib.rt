@@ -4,13 +4,16 @@
 ghost use Rattle.std.specs.Prelude.{◌≡◌, ℕ, ◌+◌, ◌*◌, ◌/◌, ◌≤◌, ◌<◌, length, get_or, take};
 ghost use Rattle.std.proofs.lemmas.List.Edits.{sets};
 ghost use Rattle.compress.specs.declared.Refusal.TheVariants.{NoRoom};
-ghost use Rattle.compress.specs.Wires.{wires_of};
+ghost use Rattle.compress.specs.Wires.{total};
+ghost use Rattle.rows.specs.Held.{wires_in, wires_held};
+ghost use Rattle.rows.specs.Places.{SameWires};
 ghost use Rattle.checks.specs.Causes.{wires_cause};
 ghost use Rattle.mending.specs.Parts.{uses_of_parts};
 ghost use Rattle.mending.specs.Replace.{replace_use, replace_edges, replace_wires};
 ghost use Rattle.mending.specs.Steps.{Replaceable, Mended, InPlace};
 
 use compress::Refusal;
+use rows::lent::{Wires, WiresMut};
 
 // What stands in a wire for one use: the use, or it and that of the edge cut off, in their order.
 #[derive(Clone, Copy)]
@@ -68,20 +71,15 @@ fn replace_edges(wire: &[u32], added: &[u32], out: &mut [u32]) -> usize
 }
 
 // Every wire is mended: the uses go to `out` and the lengths to `out_lengths`. The answer is the count of uses.
-fn replace_wires(
-    uses: &[u32],
-    lengths: &[u32],
-    wires: usize,
-    added: &[u32],
-    out: &mut [u32],
-    out_lengths: &mut [u32],
-) -> usize
-    requires { Replaceable uses.now lengths.now wires added.now out.old out_lengths.old }
-    ensures { Mended (replace_wires added.now (wires_of uses.now (take wires lengths.now))) out.new out_lengths.new result }
+fn replace_wires(wires: &Wires, added: &[u32], out: &mut [u32], out_lengths: &mut [u32]) -> usize
+    requires { Replaceable wires.now.uses.now wires.now.lengths.now wires.now.count added.now out.old out_lengths.old }
+    ensures { Mended (replace_wires added.now (wires_in wires.now)) out.new out_lengths.new result }
 {
+    let uses = wires.uses;
+    let lengths = wires.lengths;
     let mut from: usize = 0;
     let mut at: usize = 0;
-    for w in 0..wires {
+    for w in 0..wires.count {
         let to = from + lengths[w] as usize;
         let n = replace_edges(&uses[from..to], added, &mut out[at..]);
         out_lengths[w] = n as u32;
@@ -107,62 +105,44 @@ impl From<NoRoom> for Refusal {
     }
 }
 
-// The wires are mended in place by way of two buffers, and not at all where there is no room: how many uses they have.
-fn mend_through(
-    uses: &mut [u32],
-    lengths: &mut [u32],
-    wires: usize,
+// The wires are mended in place by way of a buffer of N uses, and not at all where there is no room: how many uses they have.
+fn mend_within<const N: usize>(
+    wires: &mut WiresMut,
     added: &[u32],
     room: bool,
-    out: &mut [u32],
-    out_lengths: &mut [u32],
 ) -> Result<usize, NoRoom>
-    requires { Replaceable uses.old lengths.old wires added.now out.old out_lengths.old }
-    ensures { InPlace (replace_wires added.now (wires_of uses.old (take wires lengths.old))) room uses.old lengths.old uses.new lengths.new result }
+    requires uses_few { (total (take wires.old.count wires.old.lengths.now) * 2 ≤ N) × (N ≤ 2048) }
+    requires wires_value { wires_cause (length added.now) wires.old.uses.now wires.old.lengths.now wires.old.count ≡ 0 }
+    requires added_small { (k : ℕ) → get_or added.now k 0 < 2147483648 }
+    ensures mended { InPlace (replace_wires added.now (wires_held wires.old)) room wires.old.uses.now wires.old.lengths.now wires.new.uses.now wires.new.lengths.now result }
+    ensures same { SameWires wires.old wires.new }
 {
-    let n = replace_wires(uses, lengths, wires, added, out, out_lengths);
-    let fits = room & rows::uses_fit(uses, n);
+    let mut out = [0u32; N];
+    let mut out_lengths = [0u32; 64];
+    let lent = wires.view();
+    let count = lent.count;
+    let n = replace_wires(&lent, added, &mut out, &mut out_lengths);
+    let fits = room & rows::uses_fit(lent.uses, n);
     if !fits {
         return Err(NoRoom { uses: n });
     }
-    rows::copy(out, n, uses);
-    rows::copy(out_lengths, wires, lengths);
+    rows::copy(&out, n, wires.uses);
+    rows::copy(&out_lengths, count, wires.lengths);
     Ok(n)
 }
 
 // Every wire is mended in place, where there is room for all of them: `room` tells it of the tables, and the uses are judged here.
 // Few uses have a small buffer, since to zero it takes time.
-pub fn mend_wires(
-    uses: &mut [u32],
-    lengths: &mut [u32],
-    wires: usize,
-    added: &[u32],
-    room: bool,
-) -> Result<usize, NoRoom>
-    requires { (wires_cause (length added.now) uses.old lengths.old wires ≡ 0) × ((k : ℕ) → get_or added.now k 0 < 2147483648) }
-    ensures { InPlace (replace_wires added.now (wires_of uses.old (take wires lengths.old))) room uses.old lengths.old uses.new lengths.new result }
+pub fn mend_wires(wires: &mut WiresMut, added: &[u32], room: bool) -> Result<usize, NoRoom>
+    requires wires_value { wires_cause (length added.now) wires.old.uses.now wires.old.lengths.now wires.old.count ≡ 0 }
+    requires added_small { (k : ℕ) → get_or added.now k 0 < 2147483648 }
+    ensures mended { InPlace (replace_wires added.now (wires_held wires.old)) room wires.old.uses.now wires.old.lengths.now wires.new.uses.now wires.new.lengths.now result }
+    ensures same { SameWires wires.old wires.new }
 {
-    let mut out_lengths = [0u32; 64];
-    if checks::total_uses(lengths, wires) <= 64 {
-        let mut out = [0u32; 128];
-        return mend_through(
-            uses,
-            lengths,
-            wires,
-            added,
-            room,
-            &mut out,
-            &mut out_lengths,
-        );
+    let lent = wires.view();
+    if checks::total_uses(&lent.lengths[..lent.count]) <= 64 {
+        mend_within::<128>(wires, added, room)
+    } else {
+        mend_within::<2048>(wires, added, room)
     }
-    let mut out = [0u32; 2048];
-    mend_through(
-        uses,
-        lengths,
-        wires,
-        added,
-        room,
-        &mut out,
-        &mut out_lengths,
-    )
 }

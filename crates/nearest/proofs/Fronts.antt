@@ -1,8 +1,8 @@
 -- The front of a stretch that is nearest to a vertex: the best so far, with the fronts that are left, is the best of all.
 -- Assumes nothing.
-use mathlib.Core.Path.{◌≡◌, refl, ap, ◌∙◌}
+use mathlib.Core.Path.{◌≡◌, refl, ap, sym, ◌∙◌}
 use mathlib.Core.Bool.{Bool, true, false}
-use mathlib.Core.List.{List, ◌∷◌, foldl}
+use mathlib.Core.List.{List, [], ◌∷◌, foldl}
 use Prim.Native.Nat.{ℕ, suc, ◌+◌, ◌*◌, ◌/◌, ◌≤◌, ◌<◌}
 use native.Mathlib.Numerals.{add-one}
 use native.Mathlib.Omega.{arith}
@@ -13,11 +13,12 @@ use Rattle.compress.specs.declared.Edge.{Edge}
 use Rattle.compress.specs.declared.Vertex.{Vertex}
 use Rattle.compress.specs.Records.{pick, forward, front_of, front_at}
 use Rattle.compress.specs.Rows.{edge_at}
+use Rattle.compress.specs.Said.{result}
 use Rattle.checks.specs.Causes.{vertices_cause, edges_cause}
 use Rattle.checks.proofs.Accepted.{edges_accepted, edge_ends, vertices_accepted}
 use Rattle.compress.specs.Choice.{smaller}
 use Rattle.nearest.specs.declared.Away.{Away}
-use Rattle.nearest.specs.Ends.{point_of, away_at, gap_of, gap_from, fronts_of, nearest_front}
+use Rattle.nearest.specs.Ends.{point_of, away_at, gap_of, gap_from, fronts_of, nearest_front, ends_from, nearest_ends}
 
 pick_below : (b : Bool) (x y v : ℕ) → x < v → y < v → pick b x y < v
 pick_below true x y v h k = h
@@ -84,6 +85,27 @@ module _ (es : ℕ → Edge) (vs : ℕ → Vertex) (p v u : ℕ) (us : List ℕ)
   seeking_done i best S h = rw (drop_of_length-le us h) at S.is
 
 -- ---- nearest ends
+split_first : (us : List ℕ) → 0 < length us → us ≡ get_or us 0 0 ∷ drop 1 us
+split_first [] h = absurd (none h)
+  where
+    none : 0 < 0 → ⊥
+    none g = omega arith
+split_first (u ∷ us) h = refl
+
+-- of two stretches that are not empty
+pub ends_found : (es : ℕ → Edge) (vs : ℕ → Vertex) (v0 : ℕ) (first second : List ℕ) (v1 w0 : ℕ) → (length second ≡ 0 → ⊥) → (length first ≡ 0 → ⊥)
+    → v1 ≡ nearest_front es vs v0 (get_or second 0 0) (drop 1 second) → w0 ≡ nearest_front es vs v1 (get_or first 0 0) (drop 1 first)
+    → result (record { v0 = w0; v1 = v1 }) ≡ nearest_ends es vs v0 first second
+unfolding nearest_ends
+ends_found es vs v0 first second v1 w0 ns nf p q =
+    let a : second ≡ get_or second 0 0 ∷ drop 1 second = split_first second (omega (arith, ns)) in
+    let b : first ≡ get_or first 0 0 ∷ drop 1 first = split_first first (omega (arith, nf)) in
+    let e : nearest_ends es vs v0 first second ≡ ends_from es vs (nearest_front es vs v0 (get_or second 0 0) (drop 1 second)) first
+    = ap (nearest_ends es vs v0 first) a in
+    let g : ends_from es vs v1 first ≡ result (record { v0 = nearest_front es vs v1 (get_or first 0 0) (drop 1 first); v1 = v1 })
+    = ap (ends_from es vs v1) b in
+    rw q (sym (e ∙ rw (← p) g))
+
 -- the uses after the first of a stretch are uses of it
 pub uses_after : (m : ℕ) (w us : List ℕ) (u : ℕ) → w ≡ u ∷ us → ((k : ℕ) → k < length w → get_or w k 0 / 2 < m) → (k : ℕ) → k < length us → get_or us k 0 / 2 < m
 uses_after m w us u e h k lt = let g = rw e at h in g (suc k) (omega arith)

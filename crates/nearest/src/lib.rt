@@ -6,9 +6,10 @@ ghost use Rattle.compress.specs.Choice.{smaller};
 ghost use Rattle.compress.specs.Said.{said_if};
 ghost use Rattle.nearest.specs.Ends.{point_of, point_gap, away_at, gap_of, nearest_front, nearest_ends};
 ghost use Rattle.checks.specs.Causes.{vertices_cause, edges_cause};
-ghost use Rattle.compress.specs.Rows.{edge_at, vertex_at};
+ghost use Rattle.nearest.specs.Tables.{vertices_in, edges_in};
 
-use compress::Vertex;
+use compress::{Edge, Vertex};
+use rows::tables::Table;
 
 // A point in space.
 #[derive(Clone, Copy)]
@@ -69,50 +70,40 @@ pub struct Ends {
 }
 
 // The point of vertex v.
-fn point_at(numbers: &[u32], floats: &[f64], v: u32) -> Xyz
-    requires { (v * 3 + 3 ≤ length numbers.now) × (v * 7 + 7 ≤ length floats.now) }
-    ensures { result ≡ point_of (vertex_at numbers.now floats.now v) }
+fn point_at(vertices: &Table<Vertex>, v: u32) -> Xyz
+    requires { (v * 3 + 3 ≤ length vertices.now.numbers.now) × (v * 7 + 7 ≤ length vertices.now.floats.now) }
+    ensures { result ≡ point_of (vertices_in vertices.now v) }
 {
-    Xyz::from(compress::vertex_at(numbers, floats, v as usize))
+    Xyz::from(vertices.at(v as usize))
 }
 
-fn away_at(numbers: &[u32], floats: &[f64], from: Xyz, v: u32) -> Away
-    requires { (v * 3 + 3 ≤ length numbers.now) × (v * 7 + 7 ≤ length floats.now) }
-    ensures { result ≡ away_at (vertex_at numbers.now floats.now) from v }
+fn away_at(vertices: &Table<Vertex>, from: Xyz, v: u32) -> Away
+    requires { (v * 3 + 3 ≤ length vertices.now.numbers.now) × (v * 7 + 7 ≤ length vertices.now.floats.now) }
+    ensures { result ≡ away_at (vertices_in vertices.now) from v }
 {
     Away {
         vertex: v,
-        gap: from.gap(point_at(numbers, floats, v)),
+        gap: from.gap(point_at(vertices, v)),
     }
 }
 
 // The front that is nearest to vertex p in a stretch of use u and those that follow.
 #[tactic(auto, using(crate::proofs::Fronts::in_tables))]
-fn nearest_front(
-    vertex_numbers: &[u32],
-    vertex_floats: &[f64],
-    edge_numbers: &[u32],
-    edge_floats: &[f64],
-    vertices: usize,
-    edges: usize,
-    u: u32,
-    us: &[u32],
-    p: u32,
-) -> u32
-    requires vertices_sound { vertices_cause vertex_numbers.now vertex_floats.now vertices ≡ 0 }
-    requires edges_sound { edges_cause vertices edge_numbers.now edge_floats.now edges ≡ 0 }
-    requires p_in_table { p < vertices }
-    requires u_in_table { u / 2 < edges }
-    requires us_in_table { (k : ℕ) → k < length us.now → get_or us.now k 0 / 2 < edges }
-    ensures value { result ≡ nearest_front (edge_at edge_numbers.now edge_floats.now) (vertex_at vertex_numbers.now vertex_floats.now) p u us.now }
-    ensures below { result < vertices }
+fn nearest_front(vertices: &Table<Vertex>, edges: &Table<Edge>, u: u32, us: &[u32], p: u32) -> u32
+    requires vertices_sound { vertices_cause vertices.now.numbers.now vertices.now.floats.now vertices.now.count ≡ 0 }
+    requires edges_sound { edges_cause vertices.now.count edges.now.numbers.now edges.now.floats.now edges.now.count ≡ 0 }
+    requires p_in_table { p < vertices.now.count }
+    requires u_in_table { u / 2 < edges.now.count }
+    requires us_in_table { (k : ℕ) → k < length us.now → get_or us.now k 0 / 2 < edges.now.count }
+    ensures value { result ≡ nearest_front (edges_in edges.now) (vertices_in vertices.now) p u us.now }
+    ensures below { result < vertices.now.count }
 {
-    let from = point_at(vertex_numbers, vertex_floats, p);
-    let first = compress::front_at(edge_numbers, edge_floats, u);
-    let mut best = away_at(vertex_numbers, vertex_floats, from, first);
+    let from = point_at(vertices, p);
+    let first = edges.front(u);
+    let mut best = away_at(vertices, from, first);
     for w in us {
-        let v = compress::front_at(edge_numbers, edge_floats, *w);
-        best = best.nearer(away_at(vertex_numbers, vertex_floats, from, v));
+        let v = edges.front(*w);
+        best = best.nearer(away_at(vertices, from, v));
     }
     best.vertex
 }
@@ -120,46 +111,22 @@ fn nearest_front(
 // From v0 the nearest front of the second stretch, from there the nearest front of the first. "An empty stretch gives "none"."
 #[tactic(auto, unfolding(crate::specs::Ends::nearest_ends))]
 pub fn nearest_ends(
-    vertex_numbers: &[u32],
-    vertex_floats: &[f64],
-    edge_numbers: &[u32],
-    edge_floats: &[f64],
-    vertices: usize,
-    edges: usize,
+    vertices: &Table<Vertex>,
+    edges: &Table<Edge>,
     first: &[u32],
     second: &[u32],
     v0: u32,
 ) -> Option<Ends>
-    requires vertices_sound { vertices_cause vertex_numbers.now vertex_floats.now vertices ≡ 0 }
-    requires edges_sound { edges_cause vertices edge_numbers.now edge_floats.now edges ≡ 0 }
-    requires v0_in_table { v0 < vertices }
-    requires first_in_table { (k : ℕ) → k < length first.now → get_or first.now k 0 / 2 < edges }
-    requires second_in_table { (k : ℕ) → k < length second.now → get_or second.now k 0 / 2 < edges }
-    ensures { said_if (λ e. e) (Ok result) ≡ nearest_ends (edge_at edge_numbers.now edge_floats.now) (vertex_at vertex_numbers.now vertex_floats.now) v0 first.now second.now }
+    requires vertices_sound { vertices_cause vertices.now.numbers.now vertices.now.floats.now vertices.now.count ≡ 0 }
+    requires edges_sound { edges_cause vertices.now.count edges.now.numbers.now edges.now.floats.now edges.now.count ≡ 0 }
+    requires v0_in_table { v0 < vertices.now.count }
+    requires first_in_table { (k : ℕ) → k < length first.now → get_or first.now k 0 / 2 < edges.now.count }
+    requires second_in_table { (k : ℕ) → k < length second.now → get_or second.now k 0 / 2 < edges.now.count }
+    ensures { said_if (λ e. e) (Ok result) ≡ nearest_ends (edges_in edges.now) (vertices_in vertices.now) v0 first.now second.now }
 {
     let (u, us) = second.split_first()?;
-    let v1 = nearest_front(
-        vertex_numbers,
-        vertex_floats,
-        edge_numbers,
-        edge_floats,
-        vertices,
-        edges,
-        *u,
-        us,
-        v0,
-    );
+    let v1 = nearest_front(vertices, edges, *u, us, v0);
     let (u, us) = first.split_first()?;
-    let v0 = nearest_front(
-        vertex_numbers,
-        vertex_floats,
-        edge_numbers,
-        edge_floats,
-        vertices,
-        edges,
-        *u,
-        us,
-        v1,
-    );
+    let v0 = nearest_front(vertices, edges, *u, us, v1);
     Some(Ends { v0, v1 })
 }

@@ -2,21 +2,25 @@
 // are mended.
 #![tactic(auto)]
 
-ghost use Rattle.std.specs.Prelude.{◌≡◌, ◌≤◌, ◌<◌, leb, get_or, take};
+ghost use Rattle.std.specs.Prelude.{◌≡◌, ◌≤◌, ◌<◌, leb, get_or};
 ghost use Rattle.std.specs.Float.{nan};
 ghost use Rattle.compress.specs.Refusals.{cause_of};
-ghost use Rattle.compress.specs.Wires.{wires_of};
+ghost use Rattle.rows.specs.Held.{wires_held};
+ghost use Rattle.rows.specs.Places.{SameTable, SameWires};
 ghost use Rattle.checks.specs.Causes.{wires_cause};
 ghost use Rattle.mending.specs.Replace.{replace_wires};
 ghost use Rattle.mending.specs.Steps.{InPlace};
-ghost use Rattle.cutting.specs.Contract.{lent_of, leaves, input_cause};
+ghost use Rattle.cutting.specs.Contract.{input_cause};
+ghost use Rattle.cutting.specs.Lent.{lent, left};
 ghost use Rattle.one_cut.specs.Cut.{added_at};
 ghost use Rattle.one_cut.specs.Contract.{one_cut_cause, once_outcome, cut_outcome};
 ghost use Rattle.one_cut.specs.Steps.{asks};
 
-use compress::{Checked, Counts, Refusal};
-use cuts::Cut;
+use compress::{Checked, Counts, Edge, Refusal, Vertex};
+use cuts::{Cut, LentCuts};
 use mending::NoRoom;
+use rows::lent::WiresMut;
+use rows::tables::TableMut;
 
 // ---- causes
 
@@ -29,74 +33,37 @@ fn float_at(floats: &[f64], i: usize) -> f64
 
 // Causes 1 to 5, over all that is lent.
 fn one_cut_cause(
-    vertex_numbers: &[u32],
-    vertex_floats: &[f64],
-    edge_numbers: &[u32],
-    edge_floats: &[f64],
-    uses: &[u32],
-    lengths: &[u32],
-    cuts: &[f64],
-    vertices: usize,
-    edges: usize,
-    wires: usize,
+    vertices: &TableMut<Vertex>,
+    edges: &TableMut<Edge>,
+    wires: &WiresMut,
     edge: u32,
-    count: usize,
+    cuts: &LentCuts,
 ) -> Checked
-    ensures { cause_of result ≡ one_cut_cause (lent_of vertex_numbers.now vertex_floats.now edge_numbers.now edge_floats.now uses.now lengths.now vertices edges wires) edge cuts.now count }
+    ensures { cause_of result ≡ one_cut_cause (lent vertices.now edges.now wires.now) edge cuts.now.floats.now cuts.now.count }
 {
     let b = edge as usize * 6;
-    let t0 = float_at(edge_floats, b + 4);
-    let t1 = float_at(edge_floats, b + 5);
-    let shell = cutting::input_cause(
-        vertex_numbers,
-        vertex_floats,
-        edge_numbers,
-        edge_floats,
-        uses,
-        lengths,
-        vertices,
-        edges,
-        wires,
-    );
-    let number = checks::edge_number(edges, edge);
-    let c = cuts::cuts_cause(t0, t1, cuts, count);
+    let t0 = float_at(edges.floats, b + 4);
+    let t1 = float_at(edges.floats, b + 5);
+    let shell = cutting::input_cause(vertices, edges, wires);
+    let number = checks::edge_number(edges.count, edge);
+    let c = cuts.cause(t0, t1);
     checks::lower(shell, checks::lower(number, c))
 }
 
 // The cut that is to be made, if any: no cut changes nothing, and two or more are refused.
 fn judge(
-    vertex_numbers: &[u32],
-    vertex_floats: &[f64],
-    edge_numbers: &[u32],
-    edge_floats: &[f64],
-    uses: &[u32],
-    lengths: &[u32],
-    cuts: &[f64],
-    vertices: usize,
-    edges: usize,
-    wires: usize,
+    vertices: &TableMut<Vertex>,
+    edges: &TableMut<Edge>,
+    wires: &WiresMut,
     edge: u32,
-    count: usize,
+    cuts: &LentCuts,
 ) -> Result<Option<Cut>, Refusal>
-    ensures { asks (lent_of vertex_numbers.now vertex_floats.now edge_numbers.now edge_floats.now uses.now lengths.now vertices edges wires) edge cuts.now count result }
+    ensures { asks (lent vertices.now edges.now wires.now) edge cuts.now.floats.now cuts.now.count result }
 {
-    one_cut_cause(
-        vertex_numbers,
-        vertex_floats,
-        edge_numbers,
-        edge_floats,
-        uses,
-        lengths,
-        cuts,
-        vertices,
-        edges,
-        wires,
-        edge,
-        count,
-    )?;
-    match count {
+    one_cut_cause(vertices, edges, wires, edge, cuts)?;
+    match cuts.count {
         0 => Ok(None),
-        1 => Ok(Some(cuts::cut_at(cuts, 0))),
+        1 => Ok(Some(cuts.at(0))),
         _ => Err(Refusal::SeveralCuts),
     }
 }
@@ -106,39 +73,32 @@ fn judge(
 // The wires are mended in place after edge i of `edges` is cut, by the map of `replace_edges` where just that edge is cut. It is made in a table
 // of N entries. `room` is how many cuts the tables of the shell have room for.
 fn mend_within<const N: usize>(
-    uses: &mut [u32],
-    lengths: &mut [u32],
-    wires: usize,
+    wires: &mut WiresMut,
     edges: usize,
     i: usize,
     room: usize,
 ) -> Result<usize, NoRoom>
     requires table { (i < edges) × (edges ≤ N) × (N ≤ 4096) }
-    requires wires_value { wires_cause edges uses.old lengths.old wires ≡ 0 }
-    ensures { InPlace (replace_wires (added_at edges i edges) (wires_of uses.old (take wires lengths.old))) (leb 1 room) uses.old lengths.old uses.new lengths.new result }
+    requires wires_value { wires_cause edges wires.old.uses.now wires.old.lengths.now wires.old.count ≡ 0 }
+    ensures mended { InPlace (replace_wires (added_at edges i edges) (wires_held wires.old)) (leb 1 room) wires.old.uses.now wires.old.lengths.now wires.new.uses.now wires.new.lengths.now result }
+    ensures same { SameWires wires.old wires.new }
 {
     let mut added = [0u32; N];
     added[i] = edges as u32;
-    mending::mend_wires(uses, lengths, wires, &added[..edges], 1 <= room)
+    mending::mend_wires(wires, &added[..edges], 1 <= room)
 }
 
 // The same by a table that is large enough: few edges have a small one, since to zero it takes time.
-fn mend_cut(
-    uses: &mut [u32],
-    lengths: &mut [u32],
-    wires: usize,
-    edges: usize,
-    i: usize,
-    room: usize,
-) -> Result<usize, NoRoom>
+fn mend_cut(wires: &mut WiresMut, edges: usize, i: usize, room: usize) -> Result<usize, NoRoom>
     requires table { (i < edges) × (edges ≤ 4096) }
-    requires wires_value { wires_cause edges uses.old lengths.old wires ≡ 0 }
-    ensures { InPlace (replace_wires (added_at edges i edges) (wires_of uses.old (take wires lengths.old))) (leb 1 room) uses.old lengths.old uses.new lengths.new result }
+    requires wires_value { wires_cause edges wires.old.uses.now wires.old.lengths.now wires.old.count ≡ 0 }
+    ensures mended { InPlace (replace_wires (added_at edges i edges) (wires_held wires.old)) (leb 1 room) wires.old.uses.now wires.old.lengths.now wires.new.uses.now wires.new.lengths.now result }
+    ensures same { SameWires wires.old wires.new }
 {
     if edges <= 64 {
-        mend_within::<64>(uses, lengths, wires, edges, i, room)
+        mend_within::<64>(wires, edges, i, room)
     } else {
-        mend_within::<4096>(uses, lengths, wires, edges, i, room)
+        mend_within::<4096>(wires, edges, i, room)
     }
 }
 
@@ -146,43 +106,24 @@ fn mend_cut(
 
 // One cut of a shell that has none of the causes 1 to 5. Nothing lent is written before the room for all of the result is judged.
 fn cut_checked(
-    vertex_numbers: &mut [u32],
-    vertex_floats: &mut [f64],
-    edge_numbers: &mut [u32],
-    edge_floats: &mut [f64],
-    uses: &mut [u32],
-    lengths: &mut [u32],
-    vertices: usize,
-    edges: usize,
-    wires: usize,
+    vertices: &mut TableMut<Vertex>,
+    edges: &mut TableMut<Edge>,
+    wires: &mut WiresMut,
     i: usize,
     c: Cut,
 ) -> Result<Counts, Refusal>
-    requires { (input_cause (lent_of vertex_numbers.old vertex_floats.old edge_numbers.old edge_floats.old uses.old lengths.old vertices edges wires) ≡ 0) × (i < edges) }
-    ensures { leaves result vertex_numbers.new vertex_floats.new edge_numbers.new edge_floats.new uses.new lengths.new ≡ once_outcome (lent_of vertex_numbers.old vertex_floats.old edge_numbers.old edge_floats.old uses.old lengths.old vertices edges wires) i c }
+    requires { (input_cause (lent vertices.old edges.old wires.old) ≡ 0) × (i < edges.old.count) }
+    ensures outcome { left result vertices.new edges.new wires.new ≡ once_outcome (lent vertices.old edges.old wires.old) i c }
+    ensures same_vertices { SameTable vertices.old vertices.new }
+    ensures same_edges { SameTable edges.old edges.new }
+    ensures same_wires { SameWires wires.old wires.new }
 {
-    let room = cutting::cut_room(
-        vertex_numbers,
-        vertex_floats,
-        edge_numbers,
-        edge_floats,
-        vertices,
-        edges,
-    );
-    let uses = mend_cut(uses, lengths, wires, edges, i, room)?;
-    cuts::put_cut(
-        vertex_numbers,
-        vertex_floats,
-        edge_numbers,
-        edge_floats,
-        i,
-        vertices,
-        edges,
-        c,
-    );
+    let room = cutting::cut_room(vertices, edges);
+    let uses = mend_cut(wires, edges.count, i, room)?;
+    cuts::put_cut(vertices, edges, i, c);
     Ok(Counts {
-        vertices: vertices + 1,
-        edges: edges + 1,
+        vertices: vertices.count + 1,
+        edges: edges.count + 1,
         uses,
     })
 }
@@ -190,53 +131,24 @@ fn cut_checked(
 // `cut_edge_by_intersections` with `insert_new_edges`: no cut changes nothing, one cuts the edge and mends every wire, in place, and two or
 // more are refused. A refusal leaves all six slices as they were.
 pub fn cut_edge_by_intersections(
-    vertex_numbers: &mut [u32],
-    vertex_floats: &mut [f64],
-    edge_numbers: &mut [u32],
-    edge_floats: &mut [f64],
-    uses: &mut [u32],
-    lengths: &mut [u32],
-    cuts: &[f64],
-    vertices: usize,
-    edges: usize,
-    wires: usize,
+    vertices: &mut TableMut<Vertex>,
+    edges: &mut TableMut<Edge>,
+    wires: &mut WiresMut,
     edge: u32,
-    count: usize,
+    cuts: &LentCuts,
 ) -> Result<Counts, Refusal>
-    ensures { leaves result vertex_numbers.new vertex_floats.new edge_numbers.new edge_floats.new uses.new lengths.new ≡ cut_outcome (lent_of vertex_numbers.old vertex_floats.old edge_numbers.old edge_floats.old uses.old lengths.old vertices edges wires) edge cuts.now count }
+    ensures outcome { left result vertices.new edges.new wires.new ≡ cut_outcome (lent vertices.old edges.old wires.old) edge cuts.now.floats.now cuts.now.count }
+    ensures same_vertices { SameTable vertices.old vertices.new }
+    ensures same_edges { SameTable edges.old edges.new }
+    ensures same_wires { SameWires wires.old wires.new }
 {
-    let asked = judge(
-        vertex_numbers,
-        vertex_floats,
-        edge_numbers,
-        edge_floats,
-        uses,
-        lengths,
-        cuts,
-        vertices,
-        edges,
-        wires,
-        edge,
-        count,
-    )?;
-    let Some(c) = asked else {
+    let Some(c) = judge(vertices, edges, wires, edge, cuts)? else {
+        let wires = wires.view();
         return Ok(Counts {
-            vertices,
-            edges,
-            uses: checks::total_uses(lengths, wires),
+            vertices: vertices.count,
+            edges: edges.count,
+            uses: checks::total_uses(&wires.lengths[..wires.count]),
         });
     };
-    cut_checked(
-        vertex_numbers,
-        vertex_floats,
-        edge_numbers,
-        edge_floats,
-        uses,
-        lengths,
-        vertices,
-        edges,
-        wires,
-        edge as usize,
-        c,
-    )
+    cut_checked(vertices, edges, wires, edge as usize, c)
 }

@@ -4,7 +4,7 @@ use mathlib.Core.Path.{◌≡◌, refl}
 use mathlib.Core.Bool.{Bool, true, false, not}
 use mathlib.Core.Logic.{⊎_elim}
 use mathlib.Core.List.Memᴰ
-use mathlib.Core.List.{List, [], ◌∷◌, ◌++◌, foldl, Memᴰ}
+use mathlib.Core.List.{List, [], ◌∷◌, ◌++◌, append-nil, foldl, Memᴰ}
 use Prim.Native.Nat.{ℕ, ◌+◌, ◌<◌}
 use lib.Dec.{T}
 use lib.ListN.{length, get_or, take}
@@ -20,6 +20,16 @@ use Rattle.compress.proofs.Choices.{chosen, into, smallest_member}
 pub foldl_parts : {A B : Type 0} (g : B → A → B) (xs ys : List A) (a : B) → foldl g a (xs ++ ys) ≡ foldl g (foldl g a xs) ys
 foldl_parts g [] ys a = refl
 foldl_parts g (x ∷ xs) ys a = foldl_parts g xs ys (g a x)
+
+-- in four
+pub four_parts : {A : Type 0} (g : A → A → A) (w x y z : List A) (a b c d r : A) → b ≡ foldl g a w → c ≡ foldl g b x → d ≡ foldl g c y → r ≡ foldl g d z
+    → r ≡ foldl g a (w ++ (x ++ (y ++ (z ++ []))))
+four_parts g w x y z a b c d r p q s t =
+    rw (foldl_parts g w _ a, foldl_parts g x _ _, foldl_parts g y _ _, append-nil z, ← p, ← q, ← s) t
+
+pub four_steps : {A : Type 0} (g : A → A → A) (a b c d r w x y z w' x' y' z' : A) → b ≡ g a w → c ≡ g b x → d ≡ g c y → r ≡ g d z
+    → w ≡ w' → x ≡ x' → y ≡ y' → z ≡ z' → r ≡ foldl g a (w' ∷ x' ∷ y' ∷ z' ∷ [])
+four_steps g a b c d r w x y z w' x' y' z' p q s t e₁ e₂ e₃ e₄ = rw (t, s, q, p, e₁, e₂, e₃, e₄)
 
 -- and an item further
 pub foldl_turn : {A B : Type 0} (g : B → A → B) (xs : List A) (i : ℕ) (a b r : B) (d : A) → i < length xs → b ≡ foldl g a (take i xs) → r ≡ g b (get_or xs i d)

@@ -2,12 +2,13 @@
 // the new edges and the wires, and the shell comes back.
 #![tactic(auto)]
 
-ghost use Rattle.std.specs.Prelude.{◌≡◌};
+ghost use Rattle.std.specs.Prelude.{◌≡◌, IfOk};
 
-use compress::Refusal;
 use nearest::Ends;
-use pipe_shell::{Edges, Shell, Wires, writing};
-use split::Boundaries;
+use pipe_shell::{Shell, Stop, Wires, writing};
+use rows::lent;
+use rows::tables::TableMut;
+use seams::Divisor;
 
 // The uv points of the two vertices: the second's is the copy of it that is nearest to the first's.
 fn seam_points(d: Ends) -> [f64; 4] {
@@ -17,78 +18,57 @@ fn seam_points(d: Ends) -> [f64; 4] {
     [p.u, p.v, near.u, near.v]
 }
 
-// The shell after a split.
-fn after_split(out: i32, answer: Result<Boundaries, Refusal>, s: Shell) -> Shell
-    ensures { result.vertices ≡ s.vertices }
-{
-    match answer {
-        Ok(made) => {
-            notation::text(out, b" a seam, and the wires along it\n");
-            let left = Shell {
-                edges: Edges {
-                    count: made.edges,
-                    ..s.edges
-                },
-                wires: Wires {
-                    count: made.wires,
-                    ..s.wires
-                },
-                ..s
-            };
-            writing::write_shell(out, left, s.edges.count);
-            left
-        }
-        Err(r) => {
-            writing::write_refusal(out, r);
-            pipe_shell::stopped(s)
-        }
-    }
-}
-
 // Splits the face along the seam between two vertices, with so many of its wires, from the first on, to be rebuilt.
-fn split_along(out: i32, s: Shell, d: Ends, rebuilt: usize) -> Shell
-    ensures { result.vertices ≡ s.vertices }
+fn split_along(rt: &impl Print, s: &Shell, d: Ends, rebuilt: usize) -> Result<Shell, Stop>
+    ensures { IfOk result (λ left. left.vertices ≡ s.now.vertices) }
 {
-    let face = s.wires;
-    let wires = Wires {
+    let none = Wires {
         uses: [0; 8],
         lengths: [0; 8],
         count: 0,
     };
-    let mut left = Shell { wires, ..s };
-    let answer = split::split_boundaries_by_divisor(
-        &mut left.edges.numbers,
-        &mut left.edges.floats,
-        &face.uses,
-        &face.lengths,
-        &face.uses,
-        &face.lengths,
-        &[d.v0, d.v1],
-        &seam_points(d),
+    let mut left = Shell { wires: none, ..*s };
+    let face = s.wires.lent();
+    let made = split::split_boundaries_by_divisor(
+        s.vertices.count,
+        &mut TableMut::new(
+            &mut left.edges.numbers,
+            &mut left.edges.floats,
+            s.edges.count,
+        ),
+        &face,
+        &lent::Wires {
+            count: rebuilt,
+            ..face
+        },
+        &Divisor {
+            vertices: &[d.v0, d.v1],
+            points: &seam_points(d),
+            count: 2,
+        },
         &mut left.wires.uses,
         &mut left.wires.lengths,
-        s.vertices.count,
-        s.edges.count,
-        face.count,
-        rebuilt,
-        2,
         0,
-    );
-    after_split(out, answer, left)
+    )?;
+    left.edges.count = made.edges;
+    left.wires.count = made.wires;
+    println!(rt; " a seam, and the wires along it")?;
+    writing::write_shell(rt, &left, s.edges.count)?;
+    Ok(left)
 }
 
 // Splits with the seam between the rims. Both rims are open, so that no wire is to be rebuilt.
-pub fn split_seam(out: i32, s: Shell, d: Ends) -> Shell
-    ensures { result.vertices ≡ s.vertices }
+pub fn split_seam(rt: &impl Print, s: &Shell, d: Ends) -> Result<Shell, Stop>
+    ensures { IfOk result (λ left. left.vertices ≡ s.now.vertices) }
 {
-    notation::text(out, b"4. split with the seam:");
-    split_along(out, s, d, 0)
+    print!(rt; "4. split with the seam:")?;
+    split_along(rt, s, d, 0)
 }
 
 // Splits along the vertices that the search has found. All wires are to be rebuilt.
-pub fn split_again(out: i32, s: Shell, d: Ends) -> Shell
-    ensures { result.vertices ≡ s.vertices }
+pub fn split_again(rt: &impl Print, s: &Shell, d: Ends) -> Result<Shell, Stop>
+    ensures { IfOk result (λ left. left.vertices ≡ s.now.vertices) }
 {
-    notation::text(out, b"7. second split:");
-    split_along(out, s, d, s.wires.count)
+    print!(rt; "7. second split:")?;
+    split_along(rt, s, d, s.wires.count)
 }

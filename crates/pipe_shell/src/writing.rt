@@ -1,47 +1,48 @@
-// What is written of a shell and of the steps.
-use crate::{Shell, Wires};
-use compress::Refusal;
+// What is written of a shell, and of the step at which the way ends.
+use crate::{Edges, Shell, Stop, Wires};
+use std::io;
 
-// The step's line where it is turned away.
-pub fn write_refusal(out: i32, r: Refusal) {
-    notation::numbered(out, b" refused, number ", u32::from(r));
-    notation::text(out, b"\n");
+// The end of the line of the step at which the way ends.
+pub fn write_stop(rt: &impl Print, stop: Stop) -> io::Result<()> {
+    match stop {
+        Stop::Refused(r) => {
+            let number = u32::from(r);
+            println!(rt; " refused, number {number}")
+        }
+        Stop::NoResult => println!(rt; " none"),
+        Stop::OtherOpen => Ok(()),
+        Stop::Unwritten(e) => Err(e),
+    }
 }
 
-// An edge with its two vertices, as 5 = (2, 3), and a space before it.
-fn write_edge(out: i32, numbers: &[u32], e: usize) {
-    if e >= 4096 {
-        return;
+// The edges from a number on, each with its two vertices, as 5 = (2, 3).
+fn write_edges(rt: &impl Print, edges: &Edges, from: usize) -> io::Result<()> {
+    print!(rt; "   edges")?;
+    for (e, row) in edges
+        .numbers
+        .chunks_exact(4)
+        .enumerate()
+        .take(edges.count)
+        .skip(from)
+    {
+        let front = row[0];
+        let back = row[1];
+        print!(rt; " {e} = ({front}, {back})")?;
     }
-    notation::counted(out, b" ", e);
-    notation::numbered(out, b" = (", notation::at(numbers, 4 * e));
-    notation::numbered(out, b", ", notation::at(numbers, 4 * e + 1));
-    notation::text(out, b")");
-}
-
-// The edges from one number up to another.
-fn write_edges(out: i32, numbers: &[u32], from: usize, to: usize) {
-    notation::text(out, b"   edges");
-    let mut e = from;
-    while e < to {
-        write_edge(out, numbers, e);
-        e += 1;
-    }
-    notation::text(out, b"\n");
+    println!(rt; "")
 }
 
 // The wires, a stroke between them.
-pub fn write_wires(out: i32, w: Wires) {
-    let uses = w.uses;
-    let lengths = w.lengths;
-    notation::text(out, b"   wires");
-    notation::wires(out, &uses, &lengths, w.count);
-    notation::text(out, b"\n");
+pub fn write_wires(rt: &impl Print, w: &Wires) -> io::Result<()> {
+    let wires = notation::Wires {
+        uses: &w.uses,
+        lengths: notation::first(&w.lengths, w.count),
+    };
+    println!(rt; "   wires{wires}")
 }
 
 // The edges from a number on, and the wires.
-pub fn write_shell(out: i32, s: Shell, from: usize) {
-    let numbers = s.edges.numbers;
-    write_edges(out, &numbers, from, s.edges.count);
-    write_wires(out, s.wires);
+pub fn write_shell(rt: &impl Print, s: &Shell, from: usize) -> io::Result<()> {
+    write_edges(rt, &s.edges, from)?;
+    write_wires(rt, &s.wires)
 }

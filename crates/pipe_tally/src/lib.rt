@@ -1,111 +1,77 @@
 // The tally of uses in the contours.
 #![tactic(auto)]
 
+use notation::{Use, Wire};
 use pipe_shell::{Shell, Wires};
+use std::io;
 
 // How many uses the six edges of the table have, both directions.
 const USES: u32 = 12;
 
-// How many uses the first wires have.
-fn total(lengths: &[u32], wires: usize) -> usize {
-    let mut n: usize = 0;
-    let mut k: usize = 0;
-    while k < wires {
-        n = notation::plus(n, notation::length_at(lengths, k));
-        k += 1;
-    }
-    n
+// The uses of all wires.
+fn uses_of(w: &Wires) -> &[u32] {
+    let total = checks::total_uses(notation::first(&w.lengths, w.count));
+    notation::first(&w.uses, total)
 }
 
-fn total_of(w: Wires) -> usize {
-    let lengths = w.lengths;
-    total(&lengths, w.count)
-}
-
-// Each use that is among the first n, and how often.
-fn write_tally(out: i32, uses: &[u32], n: usize) {
-    let mut u: u32 = 0;
-    while u < USES {
-        let found = notation::places(uses, n, u);
+// Each use that is among these, and how often.
+fn write_tally(rt: &impl Print, uses: &[u32]) -> io::Result<()> {
+    for u in 0..USES {
+        let found = notation::places(uses, u);
         if found != 0 {
-            notation::text(out, b" ");
-            notation::edge_use(out, u);
-            notation::counted(out, b" x", found);
+            let written = Use(u);
+            print!(rt; " {written} x{found}")?;
         }
-        u += 1;
     }
-    notation::text(out, b"\n");
+    println!(rt; "")
 }
 
-// Whether a use stands among the first n as often as among the m that were to be rebuilt, once more where its edge is new: not
-// among the first so many.
-fn is_kept(uses: &[u32], n: usize, rebuilt: &[u32], m: usize, old: usize, u: u32) -> bool {
-    let found = notation::places(uses, n, u);
-    let before = notation::places(rebuilt, m, u);
-    let edge = (u / 2) as usize;
-    if edge < old {
+// Whether a use stands among these as often as among those that were to be rebuilt, once more where its edge is new: not among the
+// first so many.
+fn is_kept(uses: &[u32], rebuilt: &[u32], old: usize, u: u32) -> bool {
+    let found = notation::places(uses, u);
+    let before = notation::places(rebuilt, u);
+    if (u as usize) / 2 < old {
         found == before
     } else {
-        found != 0 && found - 1 == before
+        found.checked_sub(1) == Some(before)
     }
 }
 
 // Whether that holds of every use.
-fn are_kept(uses: &[u32], n: usize, rebuilt: &[u32], m: usize, old: usize) -> bool {
-    let mut u: u32 = 0;
-    while u < USES {
-        if !is_kept(uses, n, rebuilt, m, old, u) {
-            return false;
-        }
-        u += 1;
-    }
-    true
-}
-
-fn are_wires_kept(w: Wires, n: usize, before: Wires, m: usize, old: usize) -> bool {
-    let uses = w.uses;
-    let rebuilt = before.uses;
-    are_kept(&uses, n, &rebuilt, m, old)
+fn are_kept(uses: &[u32], rebuilt: &[u32], old: usize) -> bool {
+    (0..USES).all(|u| is_kept(uses, rebuilt, old, u))
 }
 
 // One contour with its tally.
-fn write_contour(out: i32, k: usize, uses: [u32; 8], n: usize) {
-    notation::counted(out, b"contour ", k);
-    notation::text(out, b":");
-    notation::wire(out, &uses, 0, n);
-    notation::counted(out, b"   tally of ", n);
-    notation::text(out, b" uses:");
-    write_tally(out, &uses, n);
+fn write_contour(rt: &impl Print, k: usize, uses: &[u32]) -> io::Result<()> {
+    let wire = Wire(uses);
+    let count = uses.len();
+    print!(rt; "contour {k}:{wire}   tally of {count} uses:")?;
+    write_tally(rt, uses)
 }
 
 // The contours, each with its tally.
-pub fn write_contours(out: i32, s: Shell) {
-    let wires = s.wires;
-    let mut from: usize = 0;
-    let mut k: usize = 0;
-    while k < wires.count {
-        let n = pipe_shell::length_of(wires, k);
-        write_contour(out, k, pipe_shell::uses_from(wires, from), n);
-        from = notation::plus(from, n);
-        k += 1;
+pub fn write_contours(rt: &impl Print, s: &Shell) -> io::Result<()> {
+    let lengths = notation::first(&s.wires.lengths, s.wires.count);
+    let mut rest: &[u32] = &s.wires.uses;
+    for (k, &n) in lengths.iter().enumerate() {
+        write_contour(rt, k, notation::first(rest, n as usize))?;
+        rest = notation::past(rest, n as usize);
     }
-}
-
-// How many uses there are, and how many there were.
-fn write_totals(out: i32, n: usize, m: usize) {
-    notation::counted(out, b"", n);
-    notation::counted(out, b" uses, of which ", m);
-    notation::text(out, b" were to be rebuilt: ");
+    Ok(())
 }
 
 // Whether the last split has kept every use of the shell before it.
-pub fn write_kept(out: i32, before: Shell, s: Shell) {
-    let m = total_of(before.wires);
-    let n = total_of(s.wires);
-    write_totals(out, n, m);
-    if are_wires_kept(s.wires, n, before.wires, m, before.edges.count) {
-        notation::text(out, b"every use is kept\n");
+pub fn write_kept(rt: &impl Print, before: &Shell, s: &Shell) -> io::Result<()> {
+    let rebuilt = uses_of(&before.wires);
+    let uses = uses_of(&s.wires);
+    let n = uses.len();
+    let m = rebuilt.len();
+    print!(rt; "{n} uses, of which {m} were to be rebuilt: ")?;
+    if are_kept(uses, rebuilt, before.edges.count) {
+        println!(rt; "every use is kept")
     } else {
-        notation::text(out, b"a use is lost or added\n");
+        println!(rt; "a use is lost or added")
     }
 }

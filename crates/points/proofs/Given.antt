@@ -1,12 +1,12 @@
 -- Given vertices told in one pass: the test holds just where no row has a cause, 7 included.
 -- Assumes nothing.
-use mathlib.Core.Path.{◌≡◌, ◌∙◌}
+use mathlib.Core.Path.{◌≡◌, sym, ◌∙◌}
 use mathlib.Core.Bool.{Bool, true, false}
 use mathlib.Core.List.{List}
 use Prim.Native.Nat.{ℕ, ◌+◌, ◌*◌, ◌≤◌, ◌<◌}
 use native.Mathlib.Omega.{arith}
-use borrow.Author.Tests.{eqb-false, ltb-false}
-use lib.Dec.{eqb, ltb}
+use borrow.Author.Tests.{eqb-false, ltb-false, leb-true, le-leb, le-ltb}
+use lib.Dec.{eqb, leb, ltb}
 use lib.ListN.{length, get_or}
 use Rattle.std.specs.Bool.{MatchBool}
 use Rattle.std.specs.List.{range_with_len, AllWithin, HoldsAt}
@@ -14,10 +14,11 @@ use Rattle.std.proofs.lemmas.List.FromFn.{length-range_with_len, get_or-range_wi
 use mathlib.Core.Logic.{◌≢◌}
 use lib.Ieee.{Float, nan}
 use Rattle.compress.specs.Rows.{vertex_of}
+use Rattle.compress.specs.Shell.{rows_fit}
 use Rattle.checks.specs.Causes.{lower_of, lowest_of, kind_cause, point_cause, vertex_cause, vertex_row_cause, pending_row_cause, vertices_cause, pending_cause}
 use Rattle.checks.proofs.Accepted.{not_when, vertices_accepted}
 use Rattle.checks.proofs.Lowest.{lower_first, lower_last, lower_none, lowest_none}
-use Rattle.checks.proofs.Sound.{lower_zero, lowest_all}
+use Rattle.checks.proofs.Sound.{no, both, lower_zero, lowest_all}
 use Rattle.tables.proofs.Told.{tells_no, tells_yes}
 
 module _ (ns : List ℕ) (fs : List Float) (i : ℕ) where
@@ -56,9 +57,20 @@ rows_told f g n false (k, lt, h) =
     (rw q at (h 0)) (lower_zero (f k) (g k) (lowest_none f n k a.0 p) (lowest_none g n k a.1 p)))
 
 -- a table that does not lie in its slices has the cause 1
-pub not_lying : (ns : List ℕ) (fs : List Float) (n : ℕ) → ((n ≤ 4096) × (n * 3 ≤ length ns) × (n * 7 ≤ length fs) → ⊥)
-    → false ≡ eqb (lower_of (vertices_cause ns fs n) (pending_cause ns n)) 0
-not_lying ns fs n h =
+pub not_lying : (ns : List ℕ) (fs : List Float) (n : ℕ) → rows_fit 3 7 ns fs n ≡ false → false ≡ eqb (lower_of (vertices_cause ns fs n) (pending_cause ns n)) 0
+not_lying ns fs n q =
     tells_no (lower_of (vertices_cause ns fs n) (pending_cause ns n)) (λ z.
     let A = vertices_accepted ns fs n (lower_none (vertices_cause ns fs n) (pending_cause ns n) z).0 in
-    h (A.below, A.numbers, A.floats))
+    no (sym q ∙ rw (le-leb n 4096 A.below, le-leb (n * 3) (length ns) A.numbers, le-leb (n * 7) (length fs) A.floats)))
+
+-- a table that lies there, from what `all` tells of its rows
+pub table_told : (ns : List ℕ) (fs : List Float) (n : ℕ) (r : Bool) → rows_fit 3 7 ns fs n ≡ true
+    → MatchBool r (AllWithin (λ i. lower_of (vertex_row_cause ns fs i) (pending_row_cause ns i) ≡ 0) (range_with_len 0 n) 0 (length (range_with_len 0 n)))
+    ((k : ℕ) × (k < length (range_with_len 0 n)) × HoldsAt (λ i. lower_of (vertex_row_cause ns fs i) (pending_row_cause ns i) ≢ 0) (range_with_len 0 n) k)
+    → r ≡ eqb (lower_of (vertices_cause ns fs n) (pending_cause ns n)) 0
+unfolding vertices_cause pending_cause
+table_told ns fs n r q h =
+    let p = both (leb n 4096) _ q in
+    let t = both (leb (n * 3) (length ns)) (leb (n * 7) (length fs)) p.1 in
+    rw (le-ltb 4096 n (leb-true n 4096 p.0), le-ltb (length ns) (n * 3) (leb-true (n * 3) (length ns) t.0), le-ltb (length fs) (n * 7) (leb-true (n * 7) (length fs) t.1))
+    (rows_told (vertex_row_cause ns fs) (pending_row_cause ns) n r h)

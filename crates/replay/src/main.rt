@@ -6,69 +6,63 @@
 // list, of altered records: in each, one word of what the call answered and left is another, so none of them is the same.
 #![tactic(auto)]
 
+ghost use Rattle.std.specs.Prelude.{◌≡◌};
 ghost use Rattle.stored.specs.Compared.{Remembers};
 
 use replay_numbers::sorting;
-use replay_tally::Run;
-use stored::Place;
+use replay_tally::{Part, Run};
+use stored::{Damaged, Reader};
 
 // Replays the call with this number. A list with any other number is damaged.
-fn replay(buf: &[u8], number: u64, p: Place) -> Place
-    ensures { Remembers p result }
+fn replay(list: &mut Reader<'_>, number: u64) -> Result<(), Damaged>
+    ensures remembers { Remembers list.old list.new }
+    ensures buf_value { list.new.buf.now ≡ list.old.buf.now }
 {
     match number {
-        1 => replay_pass::replay_pass(buf, p),
-        2 => replay_numbers::replay_unwrap(buf, p),
-        3 => replay_numbers::replay_copy(buf, p),
-        4 => replay_numbers::replay_kind(buf, p),
-        5 => sorting::replay_sort(buf, p),
-        6 => replay_search::replay_correction(buf, p),
-        7 => replay_search::replay_divisor(buf, p),
-        8 => replay_cut::replay_cut(buf, p),
-        9 => replay_join::replay_join(buf, p),
-        10 => replay_split::replay_split(buf, p),
-        _ => stored::damaged(p),
+        1 => replay_pass::replay_pass(list),
+        2 => replay_numbers::replay_unwrap(list),
+        3 => replay_numbers::replay_copy(list),
+        4 => replay_numbers::replay_kind(list),
+        5 => sorting::replay_sort(list),
+        6 => replay_search::replay_correction(list),
+        7 => replay_search::replay_divisor(list),
+        8 => replay_cut::replay_cut(list),
+        9 => replay_join::replay_join(list),
+        10 => replay_split::replay_split(list),
+        _ => Err(Damaged),
     }
-}
-
-// Reads the record at a place and replays it. The run stops behind the second list, and where a list is damaged.
-fn record(buf: &[u8], r: Run, p: Place) -> Run {
-    let call = stored::next(buf, p);
-    let number = call.bits;
-    let place = call.place;
-    if number == 0 {
-        if place.is_whole {
-            return replay_tally::ended(r, place);
-        }
-        return replay_tally::stopped(r, place);
-    }
-    let at = replay(buf, number, place);
-    if at.is_whole {
-        return replay_tally::done(r, number, at);
-    }
-    replay_tally::stopped(r, at)
 }
 
 // Reads on in the list, and replays the next record.
-fn step(buf: &mut [u8], r: Run) -> Run {
-    let place = stored::refilled(buf, stored::at_record(r.place));
-    record(buf, r, place)
+fn step(list: &mut Reader<'_>, run: &mut Run) -> Result<(), Damaged> {
+    list.refill()?;
+    let number = list.next()?;
+    if number == 0 {
+        run.end_list();
+        return Ok(());
+    }
+    replay(list, number)?;
+    run.count(number, list.is_same);
+    Ok(())
 }
 
-// Replays both lists. A proved loop has to end, and nothing says that a list does, so the loop counts its turns down from a
-// number that no run uses up.
-fn replay_lists(buf: &mut [u8]) -> Run {
-    let mut run = replay_tally::begun();
-    let mut turns = u64::MAX;
-    while turns > 0 && run.has_more {
-        run = step(buf, run);
-        turns -= 1;
+// Replays both lists. A proved loop has to end, and nothing says that a list does, so the loop has a number of turns that no run
+// uses up.
+fn replay_lists(list: &mut Reader<'_>, run: &mut Run) -> Result<(), Damaged> {
+    for _ in 0..u64::MAX {
+        if run.part == Part::Ended {
+            break;
+        }
+        step(list, run)?;
     }
-    run
+    Ok(())
 }
 
 fn main() {
     let mut buf = io::large_buffer();
-    let run = replay_lists(&mut buf);
-    replay_tally::write_end(run);
+    let mut run = Run::new();
+    match replay_lists(&mut Reader::new(&mut buf), &mut run) {
+        Ok(()) => run.write(),
+        Err(Damaged) => run.write_damage(),
+    }
 }

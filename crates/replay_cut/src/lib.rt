@@ -3,101 +3,89 @@
 
 ghost use Rattle.std.specs.Prelude.{◌≡◌};
 ghost use Rattle.stored.specs.Compared.{Remembers};
-ghost use Rattle.stored_cells.specs.Fits.{FloatsFit};
+ghost use Rattle.stored_cells.specs.Fits.{Fits};
 ghost use Rattle.stored_records.specs.Fits.{ShellFits};
 
-use answers::{Answer, ShellLeft};
-use compress::Refusal;
+use cuts::LentCuts;
 use records::{Counts, Shell};
-use stored::Place;
-use stored_cells::Floats;
-use stored_records::{answers, tables as records};
+use rows::lent::WiresMut;
+use rows::tables::TableMut;
+use stored::{Damaged, Reader};
+use stored_cells::{Buffer, Cell};
+use stored_records::answers::{Answer, Told};
+use stored_records::tables as records;
 
-// Which edge is cut, how many cuts the call was told, and the place past them.
+// Which edge is cut, and how many cuts the call was told.
 #[derive(Clone, Copy)]
 struct Asked {
     edge: u32,
     cuts: usize,
-    place: Place,
 }
 
-fn answer_of(s: Result<compress::Counts, Refusal>) -> Answer {
-    match s {
-        Ok(n) => answers::told(n.vertices as u64, n.edges as u64, n.uses as u64),
-        Err(r) => answers::refused(r),
+impl Asked {
+    fn read(list: &mut Reader<'_>) -> Result<Asked, Damaged>
+        ensures is_same_value { list.new.is_same ≡ list.old.is_same }
+        ensures buf_value { list.new.buf.now ≡ list.old.buf.now }
+    {
+        let edge = u32::next(list)?;
+        let cuts = records::read_count(list)?;
+        Ok(Asked { edge, cuts })
     }
 }
 
-fn read_asked(buf: &[u8], p: Place) -> Asked
-    ensures { result.place.is_same ≡ p.is_same }
+// Makes the call cut_edge_by_intersections, on buffers of just the lengths in the list. What it wrote comes back.
+fn cut(c: Counts, wires: usize, a: Asked, s: Shell, cuts: &Buffer<f64>) -> (Answer, Shell)
+    requires { ShellFits s × Fits cuts.now }
+    ensures { ShellFits result.1 }
 {
-    let edge = stored_cells::next_number(buf, p);
-    let cuts = stored::next(buf, edge.place);
-    let place = cuts.place;
-    Asked {
-        edge: edge.value,
-        cuts: cuts.bits as usize,
-        place,
-    }
-}
-
-// Makes the call cut_edge_by_intersections, on buffers of just the lengths in the list.
-fn cut(c: Counts, wires: usize, a: Asked, s: Shell, cuts: Floats) -> ShellLeft
-    requires { ShellFits s × FloatsFit cuts }
-    ensures { ShellFits result.shell }
-{
+    // The cells that the call writes stand in locals: of the fields of a copy the check does not know that they keep their length.
     let mut vertex_numbers = s.vertices.numbers.cells;
     let mut vertex_floats = s.vertices.floats.cells;
     let mut edge_numbers = s.edges.numbers.cells;
     let mut edge_floats = s.edges.floats.cells;
     let mut uses = s.wires.first.cells;
     let mut lengths = s.wires.second.cells;
-    let points = cuts.cells;
-    let e1 = s.vertices.numbers.count;
-    let e2 = s.vertices.floats.count;
-    let e3 = s.edges.numbers.count;
-    let e4 = s.edges.floats.count;
-    let e5 = s.wires.first.count;
-    let e6 = s.wires.second.count;
-    let e7 = cuts.count;
     let split = one_cut::cut_edge_by_intersections(
-        &mut vertex_numbers[..e1],
-        &mut vertex_floats[..e2],
-        &mut edge_numbers[..e3],
-        &mut edge_floats[..e4],
-        &mut uses[..e5],
-        &mut lengths[..e6],
-        &points[..e7],
-        c.vertices,
-        c.edges,
-        wires,
+        &mut TableMut::new(
+            &mut vertex_numbers[..s.vertices.numbers.count],
+            &mut vertex_floats[..s.vertices.floats.count],
+            c.vertices,
+        ),
+        &mut TableMut::new(
+            &mut edge_numbers[..s.edges.numbers.count],
+            &mut edge_floats[..s.edges.floats.count],
+            c.edges,
+        ),
+        &mut WiresMut {
+            uses: &mut uses[..s.wires.first.count],
+            lengths: &mut lengths[..s.wires.second.count],
+            count: wires,
+        },
         a.edge,
-        a.cuts,
+        &LentCuts {
+            floats: cuts.cells(),
+            count: a.cuts,
+        },
     );
-    let shell = records::shell_left(
-        s,
-        vertex_numbers,
-        vertex_floats,
-        edge_numbers,
-        edge_floats,
-        uses,
-        lengths,
-    );
-    ShellLeft {
-        answer: answer_of(split),
-        shell,
-    }
+    let left = Shell {
+        vertices: s.vertices.with(vertex_numbers, vertex_floats),
+        edges: s.edges.with(edge_numbers, edge_floats),
+        wires: s.wires.with(uses, lengths),
+    };
+    (Answer::from(split.map(Told::from)), left)
 }
 
-// Replays cut_edge_by_intersections. The place comes back past the record.
-pub fn replay_cut(buf: &[u8], p: Place) -> Place
-    ensures { Remembers p result }
+// Replays cut_edge_by_intersections.
+pub fn replay_cut(list: &mut Reader<'_>) -> Result<(), Damaged>
+    ensures remembers { Remembers list.old list.new }
+    ensures buf_value { list.new.buf.now ≡ list.old.buf.now }
 {
-    let c = records::read_counts(buf, p);
-    let wires = stored::next(buf, c.place);
-    let a = read_asked(buf, wires.place);
-    let s = records::read_shell(buf, a.place);
-    let n = stored_cells::read_floats(buf, s.place);
-    let left = cut(c, wires.bits as usize, a, s.shell, n.floats);
-    answers::compare_shell_left(buf, n.place, left)
+    let counts = Counts::read(list)?;
+    let wires = records::read_count(list)?;
+    let asked = Asked::read(list)?;
+    let shell = Shell::read(list)?;
+    let cuts = Buffer::read(list)?;
+    let (answer, left) = cut(counts, wires, asked, shell, &cuts);
+    answer.compare_three(list)?;
+    left.compare(list)
 }

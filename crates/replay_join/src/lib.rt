@@ -5,13 +5,15 @@ ghost use Rattle.std.specs.Prelude.{◌≡◌};
 ghost use Rattle.stored.specs.Compared.{Remembers};
 ghost use Rattle.stored_records.specs.Fits.{PairFits, TableFits};
 
-use answers::{Answer, Left};
-use compress::Refusal;
+use join::OpenWire;
 use records::{Counts, Pair, Table};
-use stored::Place;
-use stored_records::{answers, tables as records};
+use rows::lent::WiresMut;
+use stored::{Damaged, Reader};
+use stored_cells::Cell;
+use stored_records::answers::{Answer, Told};
+use stored_records::tables as records;
 
-// How many uses the two open wires have, how many new wires there are, the two vertices, and the place past them.
+// How many uses the two open wires have, how many new wires there are, and the two vertices.
 #[derive(Clone, Copy)]
 struct Ends {
     first: usize,
@@ -19,84 +21,67 @@ struct Ends {
     wires: usize,
     v0: u32,
     v1: u32,
-    place: Place,
 }
 
-fn answer_of(j: Result<Option<usize>, Refusal>) -> Answer {
-    match j {
-        Ok(Some(n)) => answers::told(n as u64, 0, 0),
-        Ok(None) => answers::none(),
-        Err(r) => answers::refused(r),
+impl Ends {
+    fn read(list: &mut Reader<'_>) -> Result<Ends, Damaged>
+        ensures is_same_value { list.new.is_same ≡ list.old.is_same }
+        ensures buf_value { list.new.buf.now ≡ list.old.buf.now }
+    {
+        let first = records::read_count(list)?;
+        let second = records::read_count(list)?;
+        let wires = records::read_count(list)?;
+        let v0 = u32::next(list)?;
+        let v1 = u32::next(list)?;
+        Ok(Ends {
+            first,
+            second,
+            wires,
+            v0,
+            v1,
+        })
     }
 }
 
-fn read_ends(buf: &[u8], p: Place) -> Ends
-    ensures { result.place.is_same ≡ p.is_same }
+// Makes the call, on buffers of just the lengths in the list. What it wrote comes back.
+fn joined(c: Counts, a: Ends, e: &Table, o: &Pair, w: Pair) -> (Answer, Pair)
+    requires { TableFits e.now × PairFits o.now × PairFits w }
+    ensures { PairFits result.1 }
 {
-    let first = stored::next(buf, p);
-    let second = stored::next(buf, first.place);
-    let wires = stored::next(buf, second.place);
-    let v0 = stored_cells::next_number(buf, wires.place);
-    let v1 = stored_cells::next_number(buf, v0.place);
-    let place = v1.place;
-    Ends {
-        first: first.bits as usize,
-        second: second.bits as usize,
-        wires: wires.bits as usize,
-        v0: v0.value,
-        v1: v1.value,
-        place,
-    }
-}
-
-// Makes the call, on buffers of just the lengths in the list.
-fn joined(c: Counts, a: Ends, e: Table, o: Pair, w: Pair) -> Left
-    requires { TableFits e × PairFits o × PairFits w }
-    ensures { PairFits result.buffers }
-{
-    let edge_numbers = e.numbers.cells;
-    let edge_floats = e.floats.cells;
-    let first = o.first.cells;
-    let second = o.second.cells;
     let mut uses = w.first.cells;
     let mut lengths = w.second.cells;
-    let e1 = e.numbers.count;
-    let e2 = e.floats.count;
-    let e3 = o.first.count;
-    let e4 = o.second.count;
-    let e5 = w.first.count;
-    let e6 = w.second.count;
-    let answer = join::connect_open_boundaries(
-        &edge_numbers[..e1],
-        &edge_floats[..e2],
-        &first[..e3],
-        &second[..e4],
-        &mut uses[..e5],
-        &mut lengths[..e6],
-        c.vertices,
-        c.edges,
-        a.first,
-        a.second,
-        a.wires,
-        a.v0,
-        a.v1,
+    let edges = rows::tables::Table::new(e.numbers.cells(), e.floats.cells(), c.edges);
+    let first = OpenWire {
+        uses: o.first.cells(),
+        count: a.first,
+    };
+    let second = OpenWire {
+        uses: o.second.cells(),
+        count: a.second,
+    };
+    let mut wires = WiresMut {
+        uses: &mut uses[..w.first.count],
+        lengths: &mut lengths[..w.second.count],
+        count: a.wires,
+    };
+    let made = join::connect_open_boundaries(
+        c.vertices, &edges, &first, &second, &mut wires, a.v0, a.v1,
     );
-    let buffers = records::pair_left(w, uses, lengths);
-    Left {
-        answer: answer_of(answer),
-        buffers,
-    }
+    let answer = Answer::from(made.map(|wire| wire.map(Told::from)));
+    (answer, w.with(uses, lengths))
 }
 
-// Replays connect_open_boundaries. The place comes back past the record.
-pub fn replay_join(buf: &[u8], p: Place) -> Place
-    ensures { Remembers p result }
+// Replays connect_open_boundaries.
+pub fn replay_join(list: &mut Reader<'_>) -> Result<(), Damaged>
+    ensures remembers { Remembers list.old list.new }
+    ensures buf_value { list.new.buf.now ≡ list.old.buf.now }
 {
-    let c = records::read_counts(buf, p);
-    let a = read_ends(buf, c.place);
-    let e = records::read_table(buf, a.place);
-    let o = records::read_pair(buf, e.place);
-    let w = records::read_pair(buf, o.place);
-    let left = joined(c, a, e.table, o.pair, w.pair);
-    answers::compare_left(buf, w.place, left)
+    let counts = Counts::read(list)?;
+    let ends = Ends::read(list)?;
+    let edges = Table::read(list)?;
+    let open = Pair::read(list)?;
+    let wires = Pair::read(list)?;
+    let (answer, left) = joined(counts, ends, &edges, &open, wires);
+    answer.compare_one(list)?;
+    left.compare(list)
 }

@@ -7,51 +7,35 @@ ghost use Rattle.std.specs.Prelude.{◌≡◌};
 ghost use Rattle.stored.specs.Compared.{Remembers};
 
 use compress::{Refusal, Uv};
-use stored::Place;
+use stored::{Damaged, Reader};
+use stored_cells::Cell;
 
-// A point from the list, and the place past it.
-#[derive(Clone, Copy)]
-struct Point {
-    uv: Uv,
-    place: Place,
-}
-
-// A period from the list, with the refusal that it gets where its kind is neither 0 nor 1, and the place past it.
-// No call can be handed such a period.
-#[derive(Clone, Copy)]
-struct Given {
-    period: Result<Option<f64>, Refusal>,
-    place: Place,
-}
+// A period, with the refusal that it gets where its kind is neither 0 nor 1. No call can be handed such a period.
+type Given = Result<Option<f64>, Refusal>;
 
 // ---- what a call was handed
 
-fn read_point(buf: &[u8], p: Place) -> Point
-    ensures { result.place.is_same ≡ p.is_same }
+fn read_point(list: &mut Reader<'_>) -> Result<Uv, Damaged>
+    ensures is_same_value { list.new.is_same ≡ list.old.is_same }
+    ensures buf_value { list.new.buf.now ≡ list.old.buf.now }
 {
-    let u = stored_cells::next_float(buf, p);
-    let v = stored_cells::next_float(buf, u.place);
-    let place = v.place;
-    let uv = Uv {
-        u: u.value,
-        v: v.value,
-    };
-    Point { uv, place }
+    let u = f64::next(list)?;
+    let v = f64::next(list)?;
+    Ok(Uv { u, v })
 }
 
 // Reads the kind of a period, 0 for an absent one and 1 for a number, and the number.
-fn read_period(buf: &[u8], p: Place) -> Given
-    ensures { result.place.is_same ≡ p.is_same }
+fn read_period(list: &mut Reader<'_>) -> Result<Given, Damaged>
+    ensures is_same_value { list.new.is_same ≡ list.old.is_same }
+    ensures buf_value { list.new.buf.now ≡ list.old.buf.now }
 {
-    let kind = stored::next(buf, p);
-    let number = stored_cells::next_float(buf, kind.place);
-    let place = number.place;
-    let period = match kind.bits {
+    let kind = list.next()?;
+    let number = f64::next(list)?;
+    Ok(match kind {
         0 => Ok(None),
-        1 => Ok(Some(number.value)),
+        1 => Ok(Some(number)),
         _ => Err(Refusal::Malformed),
-    };
-    Given { period, place }
+    })
 }
 
 // ---- answers as the list has them: a number, 0 or that of the refusal, and then the result, or zeros
@@ -65,52 +49,54 @@ fn number_of<A: Copy>(answer: Result<A, Refusal>) -> u64 {
 
 // ---- get_mindiff and nearest_copy
 
-fn unwrap(u: f64, u0: f64, g: Given) -> Result<f64, Refusal> {
-    periodic::get_mindiff(u, u0, g.period?)
+fn unwrap(u: f64, u0: f64, period: Given) -> Result<f64, Refusal> {
+    periodic::get_mindiff(u, u0, period?)
 }
 
-fn copy(p: Uv, q: Uv, gu: Given, gv: Given) -> Result<Uv, Refusal> {
-    periodic::nearest_copy(p, q, gu.period?, gv.period?)
+fn copy(p: Uv, q: Uv, u_period: Given, v_period: Given) -> Result<Uv, Refusal> {
+    periodic::nearest_copy(p, q, u_period?, v_period?)
 }
 
-// Replays get_mindiff. The place comes back past the record.
-pub fn replay_unwrap(buf: &[u8], p: Place) -> Place
-    ensures { Remembers p result }
+// Replays get_mindiff.
+pub fn replay_unwrap(list: &mut Reader<'_>) -> Result<(), Damaged>
+    ensures remembers { Remembers list.old list.new }
+    ensures buf_value { list.new.buf.now ≡ list.old.buf.now }
 {
-    let u = stored_cells::next_float(buf, p);
-    let u0 = stored_cells::next_float(buf, u.place);
-    let g = read_period(buf, u0.place);
-    let answer = unwrap(u.value, u0.value, g);
-    let told = stored::compare(buf, g.place, number_of(answer));
-    stored_cells::compare_float(buf, told, answer.unwrap_or(0.0))
+    let u = f64::next(list)?;
+    let u0 = f64::next(list)?;
+    let period = read_period(list)?;
+    let answer = unwrap(u, u0, period);
+    list.compare(number_of(answer))?;
+    answer.unwrap_or(0.0).compare(list)
 }
 
-// Replays nearest_copy. The place comes back past the record.
-pub fn replay_copy(buf: &[u8], p: Place) -> Place
-    ensures { Remembers p result }
+// Replays nearest_copy.
+pub fn replay_copy(list: &mut Reader<'_>) -> Result<(), Damaged>
+    ensures remembers { Remembers list.old list.new }
+    ensures buf_value { list.new.buf.now ≡ list.old.buf.now }
 {
-    let a = read_point(buf, p);
-    let b = read_point(buf, a.place);
-    let gu = read_period(buf, b.place);
-    let gv = read_period(buf, gu.place);
-    let answer = copy(a.uv, b.uv, gu, gv);
-    let q = answer.unwrap_or(Uv { u: 0.0, v: 0.0 });
-    let told = stored::compare(buf, gv.place, number_of(answer));
-    let u = stored_cells::compare_float(buf, told, q.u);
-    stored_cells::compare_float(buf, u, q.v)
+    let p = read_point(list)?;
+    let q = read_point(list)?;
+    let u_period = read_period(list)?;
+    let v_period = read_period(list)?;
+    let answer = copy(p, q, u_period, v_period);
+    let Uv { u, v } = answer.unwrap_or(Uv { u: 0.0, v: 0.0 });
+    list.compare(number_of(answer))?;
+    u.compare(list)?;
+    v.compare(list)
 }
 
 // ---- boundary_type
 
-// Replays boundary_type. The place comes back past the record.
-pub fn replay_kind(buf: &[u8], p: Place) -> Place
-    ensures { Remembers p result }
+// Replays boundary_type.
+pub fn replay_kind(list: &mut Reader<'_>) -> Result<(), Damaged>
+    ensures remembers { Remembers list.old list.new }
+    ensures buf_value { list.new.buf.now ≡ list.old.buf.now }
 {
-    let a = read_point(buf, p);
-    let b = read_point(buf, a.place);
-    let area = stored_cells::next_float(buf, b.place);
-    let answer = wire_kinds::boundary_type(a.uv, b.uv, area.value);
-    let kind = answer.map_or(0, u32::from);
-    let told = stored::compare(buf, area.place, number_of(answer));
-    stored::compare(buf, told, u64::from(kind))
+    let first = read_point(list)?;
+    let last = read_point(list)?;
+    let area = f64::next(list)?;
+    let answer = wire_kinds::boundary_type(first, last, area);
+    list.compare(number_of(answer))?;
+    list.compare(u64::from(answer.map_or(0, u32::from)))
 }

@@ -1,143 +1,126 @@
 // Replays one stored call of split_closed_edges.
 #![tactic(auto)]
 
-ghost use Rattle.std.specs.Prelude.{◌≡◌, ◌≤◌};
+ghost use Rattle.std.specs.Prelude.{◌≡◌, ◌≤◌, IfOk};
 ghost use Rattle.stored.specs.Compared.{Remembers};
 ghost use Rattle.stored_records.specs.Fits.{PairFits, ShellFits, TableFits};
 
-use answers::{Answer, ShellLeft};
-use compress::Refusal;
-use records::{Counts, Pair, PairRead, Shell, ShellRead, Table, TableRead};
-use stored::Place;
-use stored_records::{answers, tables as records};
+use records::{Counts, Pair, Shell, Table};
+use rows::lent::WiresMut;
+use rows::tables::TableMut;
+use stored::{Damaged, Reader};
+use stored_cells::Buffer;
+use stored_records::answers::{Answer, Told};
+use stored_records::tables as records;
 
-fn answer_of(s: Result<compress::Counts, Refusal>) -> Answer {
-    match s {
-        Ok(n) => answers::told(n.vertices as u64, n.edges as u64, n.uses as u64),
-        Err(r) => answers::refused(r),
-    }
-}
-
-// The lengths of two buffers, and the place past them.
+// The lengths of two buffers.
 #[derive(Clone, Copy)]
 struct Lengths {
     first: usize,
     second: usize,
-    place: Place,
 }
 
-fn read_lengths(buf: &[u8], p: Place) -> Lengths
-    ensures { (result.first ≤ 64) × (result.second ≤ 64) × (result.place.is_same ≡ p.is_same) }
-{
-    let a = stored::next_length(buf, p);
-    let b = stored::next_length(buf, a.place);
-    let place = b.place;
-    Lengths {
-        first: a.count,
-        second: b.count,
-        place,
+impl Lengths {
+    fn read(list: &mut Reader<'_>) -> Result<Lengths, Damaged>
+        ensures bound { IfOk result (λ n. (n.first ≤ 64) × (n.second ≤ 64)) }
+        ensures is_same_value { list.new.is_same ≡ list.old.is_same }
+        ensures buf_value { list.new.buf.now ≡ list.old.buf.now }
+    {
+        let first = list.next_length()?;
+        let second = list.next_length()?;
+        Ok(Lengths { first, second })
     }
 }
 
 // Reads a table whose buffers have so many cells.
-fn fill_table(buf: &[u8], p: Place, n: usize, m: usize) -> TableRead
-    requires { (n ≤ 64) × (m ≤ 64) }
-    ensures { TableFits result.table × (result.place.is_same ≡ p.is_same) }
+fn fill_table(list: &mut Reader<'_>, n: Lengths) -> Result<Table, Damaged>
+    requires { (n.first ≤ 64) × (n.second ≤ 64) }
+    ensures fits { IfOk result TableFits }
+    ensures is_same_value { list.new.is_same ≡ list.old.is_same }
+    ensures buf_value { list.new.buf.now ≡ list.old.buf.now }
 {
-    let a = stored_cells::fill_numbers(buf, p, n);
-    let b = stored_cells::fill_floats(buf, a.place, m);
-    let numbers = a.numbers;
-    let floats = b.floats;
-    let place = b.place;
-    let table = Table { numbers, floats };
-    TableRead { table, place }
+    let numbers = Buffer::fill(list, n.first)?;
+    let floats = Buffer::fill(list, n.second)?;
+    Ok(Table { numbers, floats })
 }
 
 // Reads two buffers of so many numbers.
-fn fill_pair(buf: &[u8], p: Place, n: usize, m: usize) -> PairRead
-    requires { (n ≤ 64) × (m ≤ 64) }
-    ensures { PairFits result.pair × (result.place.is_same ≡ p.is_same) }
+fn fill_pair(list: &mut Reader<'_>, n: Lengths) -> Result<Pair, Damaged>
+    requires { (n.first ≤ 64) × (n.second ≤ 64) }
+    ensures fits { IfOk result PairFits }
+    ensures is_same_value { list.new.is_same ≡ list.old.is_same }
+    ensures buf_value { list.new.buf.now ≡ list.old.buf.now }
 {
-    let a = stored_cells::fill_numbers(buf, p, n);
-    let b = stored_cells::fill_numbers(buf, a.place, m);
-    let first = a.numbers;
-    let second = b.numbers;
-    let place = b.place;
-    let pair = Pair { first, second };
-    PairRead { pair, place }
+    let first = Buffer::fill(list, n.first)?;
+    let second = Buffer::fill(list, n.second)?;
+    Ok(Pair { first, second })
 }
 
 // Reads the lengths of all six buffers, and then the cells of all.
-fn read_shell(buf: &[u8], p: Place) -> ShellRead
-    ensures { ShellFits result.shell × (result.place.is_same ≡ p.is_same) }
+fn read_shell(list: &mut Reader<'_>) -> Result<Shell, Damaged>
+    ensures fits { IfOk result ShellFits }
+    ensures is_same_value { list.new.is_same ≡ list.old.is_same }
+    ensures buf_value { list.new.buf.now ≡ list.old.buf.now }
 {
-    let v = read_lengths(buf, p);
-    let e = read_lengths(buf, v.place);
-    let w = read_lengths(buf, e.place);
-    let vs = fill_table(buf, w.place, v.first, v.second);
-    let es = fill_table(buf, vs.place, e.first, e.second);
-    let ws = fill_pair(buf, es.place, w.first, w.second);
-    let vertices = vs.table;
-    let edges = es.table;
-    let wires = ws.pair;
-    let place = ws.place;
-    let shell = Shell {
+    let of_vertices = Lengths::read(list)?;
+    let of_edges = Lengths::read(list)?;
+    let of_wires = Lengths::read(list)?;
+    let vertices = fill_table(list, of_vertices)?;
+    let edges = fill_table(list, of_edges)?;
+    let wires = fill_pair(list, of_wires)?;
+    Ok(Shell {
         vertices,
         edges,
         wires,
-    };
-    ShellRead { shell, place }
+    })
 }
 
-// Makes the call split_closed_edges, on buffers of just the lengths in the list.
-fn pass(c: Counts, wires: usize, s: Shell) -> ShellLeft
+// Makes the call split_closed_edges, on buffers of just the lengths in the list. What it wrote comes back.
+fn pass(c: Counts, wires: usize, s: Shell) -> (Answer, Shell)
     requires { ShellFits s }
-    ensures { ShellFits result.shell }
+    ensures { ShellFits result.1 }
 {
+    // The cells that the call writes stand in locals: of the fields of a copy the check does not know that they keep their length.
     let mut vertex_numbers = s.vertices.numbers.cells;
     let mut vertex_floats = s.vertices.floats.cells;
     let mut edge_numbers = s.edges.numbers.cells;
     let mut edge_floats = s.edges.floats.cells;
     let mut uses = s.wires.first.cells;
     let mut lengths = s.wires.second.cells;
-    let e1 = s.vertices.numbers.count;
-    let e2 = s.vertices.floats.count;
-    let e3 = s.edges.numbers.count;
-    let e4 = s.edges.floats.count;
-    let e5 = s.wires.first.count;
-    let e6 = s.wires.second.count;
     let split = split_closed_edges::split_closed_edges(
-        &mut vertex_numbers[..e1],
-        &mut vertex_floats[..e2],
-        &mut edge_numbers[..e3],
-        &mut edge_floats[..e4],
-        &mut uses[..e5],
-        &mut lengths[..e6],
-        c.vertices,
-        c.edges,
-        wires,
+        &mut TableMut::new(
+            &mut vertex_numbers[..s.vertices.numbers.count],
+            &mut vertex_floats[..s.vertices.floats.count],
+            c.vertices,
+        ),
+        &mut TableMut::new(
+            &mut edge_numbers[..s.edges.numbers.count],
+            &mut edge_floats[..s.edges.floats.count],
+            c.edges,
+        ),
+        &mut WiresMut {
+            uses: &mut uses[..s.wires.first.count],
+            lengths: &mut lengths[..s.wires.second.count],
+            count: wires,
+        },
     );
-    let shell = records::shell_left(
-        s,
-        vertex_numbers,
-        vertex_floats,
-        edge_numbers,
-        edge_floats,
-        uses,
-        lengths,
-    );
-    ShellLeft {
-        answer: answer_of(split),
-        shell,
-    }
+    let left = Shell {
+        vertices: s.vertices.with(vertex_numbers, vertex_floats),
+        edges: s.edges.with(edge_numbers, edge_floats),
+        wires: s.wires.with(uses, lengths),
+    };
+    (Answer::from(split.map(Told::from)), left)
 }
 
-// Replays split_closed_edges. The place comes back past the record.
-pub fn replay_pass(buf: &[u8], p: Place) -> Place
-    ensures { Remembers p result }
+// Replays split_closed_edges.
+pub fn replay_pass(list: &mut Reader<'_>) -> Result<(), Damaged>
+    ensures remembers { Remembers list.old list.new }
+    ensures buf_value { list.new.buf.now ≡ list.old.buf.now }
 {
-    let c = records::read_counts(buf, p);
-    let wires = stored::next(buf, c.place);
-    let s = read_shell(buf, wires.place);
-    answers::compare_shell_left(buf, s.place, pass(c, wires.bits as usize, s.shell))
+    let counts = Counts::read(list)?;
+    let wires = records::read_count(list)?;
+    let shell = read_shell(list)?;
+    let (answer, left) = pass(counts, wires, shell);
+    answer.compare_three(list)?;
+    left.compare(list)
 }

@@ -3,131 +3,104 @@
 
 ghost use Rattle.std.specs.Prelude.{◌≡◌};
 ghost use Rattle.stored.specs.Compared.{Remembers};
-ghost use Rattle.stored_records.specs.Fits.{ShellFits};
+ghost use Rattle.stored_records.specs.Fits.{ShellFits, TableFits};
 
-use answers::Answer;
 use compress::Refusal;
+use correction::Stretch;
 use nearest::Ends;
 use records::{Counts, Shell};
-use stored::Place;
-use stored_records::{answers, tables as records};
+use rows::lent::Wires;
+use rows::tables::{Row, Table};
+use stored::{Damaged, Reader};
+use stored_cells::Cell;
+use stored_records::answers::{Answer, Told};
+use stored_records::tables as records;
 
-// How many uses the two stretches of nearest_correction have, from which vertex it starts, and the place past them.
+// How many uses the two stretches of nearest_correction have, and from which vertex it starts.
 #[derive(Clone, Copy)]
 struct Start {
     first: usize,
     second: usize,
     v0: u32,
-    place: Place,
 }
 
 fn answer_of(found: Result<Option<Ends>, Refusal>) -> Answer {
-    match found {
-        Ok(Some(ends)) => answers::told(ends.v0 as u64, ends.v1 as u64, 0),
-        Ok(None) => answers::none(),
-        Err(r) => answers::refused(r),
-    }
+    let told = |ends: Ends| Told::from([ends.v0 as usize, ends.v1 as usize, 0]);
+    Answer::from(found.map(|ends| ends.map(told)))
+}
+
+// A table over buffers of just the lengths in the list, said to have `count` rows.
+fn table_of<R: Row>(t: &records::Table, count: usize) -> Table<'_, R>
+    requires { TableFits t.now }
+{
+    Table::new(t.numbers.cells(), t.floats.cells(), count)
 }
 
 // ---- find_non_simple_wire_divisor
 
 // Makes the call, on buffers of just the lengths in the list.
-fn divisor(c: Counts, wires: usize, s: Shell) -> Answer
-    requires { ShellFits s }
+fn divisor(c: Counts, wires: usize, s: &Shell) -> Answer
+    requires { ShellFits s.now }
 {
-    let vertex_numbers = s.vertices.numbers.cells;
-    let vertex_floats = s.vertices.floats.cells;
-    let edge_numbers = s.edges.numbers.cells;
-    let edge_floats = s.edges.floats.cells;
-    let uses = s.wires.first.cells;
-    let lengths = s.wires.second.cells;
-    let e1 = s.vertices.numbers.count;
-    let e2 = s.vertices.floats.count;
-    let e3 = s.edges.numbers.count;
-    let e4 = s.edges.floats.count;
-    let e5 = s.wires.first.count;
-    let e6 = s.wires.second.count;
-    let ends = non_simple::find_non_simple_wire_divisor(
-        &vertex_numbers[..e1],
-        &vertex_floats[..e2],
-        &edge_numbers[..e3],
-        &edge_floats[..e4],
-        &uses[..e5],
-        &lengths[..e6],
-        c.vertices,
-        c.edges,
-        wires,
-    );
-    answer_of(ends)
+    let wires = Wires {
+        uses: s.wires.first.cells(),
+        lengths: s.wires.second.cells(),
+        count: wires,
+    };
+    let vertices = table_of(&s.vertices, c.vertices);
+    let edges = table_of(&s.edges, c.edges);
+    answer_of(non_simple::find_non_simple_wire_divisor(&vertices, &edges, &wires))
 }
 
-// Replays find_non_simple_wire_divisor. The place comes back past the record.
-pub fn replay_divisor(buf: &[u8], p: Place) -> Place
-    ensures { Remembers p result }
+// Replays find_non_simple_wire_divisor.
+pub fn replay_divisor(list: &mut Reader<'_>) -> Result<(), Damaged>
+    ensures remembers { Remembers list.old list.new }
+    ensures buf_value { list.new.buf.now ≡ list.old.buf.now }
 {
-    let c = records::read_counts(buf, p);
-    let wires = stored::next(buf, c.place);
-    let s = records::read_shell(buf, wires.place);
-    let found = divisor(c, wires.bits as usize, s.shell);
-    answers::compare_two(buf, s.place, found)
+    let counts = Counts::read(list)?;
+    let wires = records::read_count(list)?;
+    let shell = Shell::read(list)?;
+    divisor(counts, wires, &shell).compare_two(list)
 }
 
 // ---- nearest_correction
 
-fn read_start(buf: &[u8], p: Place) -> Start
-    ensures { result.place.is_same ≡ p.is_same }
-{
-    let first = stored::next(buf, p);
-    let second = stored::next(buf, first.place);
-    let v0 = stored_cells::next_number(buf, second.place);
-    let place = v0.place;
-    Start {
-        first: first.bits as usize,
-        second: second.bits as usize,
-        v0: v0.value,
-        place,
+impl Start {
+    fn read(list: &mut Reader<'_>) -> Result<Start, Damaged>
+        ensures is_same_value { list.new.is_same ≡ list.old.is_same }
+        ensures buf_value { list.new.buf.now ≡ list.old.buf.now }
+    {
+        let first = records::read_count(list)?;
+        let second = records::read_count(list)?;
+        let v0 = u32::next(list)?;
+        Ok(Start { first, second, v0 })
     }
 }
 
 // Makes the call, on buffers of just the lengths in the list. The two stretches stand where a shell has its wires.
-fn correction(c: Counts, a: Start, s: Shell) -> Answer
-    requires { ShellFits s }
+fn correction(c: Counts, a: Start, s: &Shell) -> Answer
+    requires { ShellFits s.now }
 {
-    let vertex_numbers = s.vertices.numbers.cells;
-    let vertex_floats = s.vertices.floats.cells;
-    let edge_numbers = s.edges.numbers.cells;
-    let edge_floats = s.edges.floats.cells;
-    let first = s.wires.first.cells;
-    let second = s.wires.second.cells;
-    let e1 = s.vertices.numbers.count;
-    let e2 = s.vertices.floats.count;
-    let e3 = s.edges.numbers.count;
-    let e4 = s.edges.floats.count;
-    let e5 = s.wires.first.count;
-    let e6 = s.wires.second.count;
-    let ends = correction::nearest_correction(
-        &vertex_numbers[..e1],
-        &vertex_floats[..e2],
-        &edge_numbers[..e3],
-        &edge_floats[..e4],
-        &first[..e5],
-        &second[..e6],
-        c.vertices,
-        c.edges,
-        a.first,
-        a.second,
-        a.v0,
-    );
-    answer_of(ends)
+    let first = Stretch {
+        uses: s.wires.first.cells(),
+        count: a.first,
+    };
+    let second = Stretch {
+        uses: s.wires.second.cells(),
+        count: a.second,
+    };
+    let vertices = table_of(&s.vertices, c.vertices);
+    let edges = table_of(&s.edges, c.edges);
+    answer_of(correction::nearest_correction(&vertices, &edges, &first, &second, a.v0))
 }
 
-// Replays nearest_correction. The place comes back past the record.
-pub fn replay_correction(buf: &[u8], p: Place) -> Place
-    ensures { Remembers p result }
+// Replays nearest_correction.
+pub fn replay_correction(list: &mut Reader<'_>) -> Result<(), Damaged>
+    ensures remembers { Remembers list.old list.new }
+    ensures buf_value { list.new.buf.now ≡ list.old.buf.now }
 {
-    let c = records::read_counts(buf, p);
-    let a = read_start(buf, c.place);
-    let s = records::read_shell(buf, a.place);
-    let found = correction(c, a, s.shell);
-    answers::compare_two(buf, s.place, found)
+    let counts = Counts::read(list)?;
+    let start = Start::read(list)?;
+    let shell = Shell::read(list)?;
+    correction(counts, start, &shell).compare_two(list)
 }

@@ -1,9 +1,9 @@
 // How far a replay is: the place in the lists, and how many calls answered the same.
 #![tactic(auto)]
 
-ghost use Rattle.std.specs.Prelude.{◌≡◌, true, false, not, ◌+◌, ◌<◌};
-
-use stored::Place;
+ghost use Rattle.std.specs.Prelude.{◌≡◌};
+ghost use Rattle.replay_tally.specs.declared.Part.TheVariants.{Stored};
+ghost use Rattle.replay_tally.specs.Parts.{counted, part_behind};
 
 // The descriptor of standard output.
 const STDOUT_FILENO: i32 = 1;
@@ -14,6 +14,20 @@ const TALLIES: usize = 11;
 // The place of the tally of the altered records. No kind of call has this number.
 const ALTERED: usize = 0;
 
+// The names of the calls, in the order of their numbers from 1.
+const NAMES: [&[u8]; TALLIES - 1] = [
+    b"split_closed_edges",
+    b"get_mindiff",
+    b"nearest_copy",
+    b"boundary_type",
+    b"sort_wires",
+    b"nearest_correction",
+    b"find_non_simple_wire_divisor",
+    b"cut_edge_by_intersections",
+    b"connect_open_boundaries",
+    b"split_boundaries_by_divisor",
+];
+
 // How many calls were replayed, and how many of them answered and left the same.
 #[derive(Clone, Copy)]
 pub struct Tally {
@@ -21,101 +35,84 @@ pub struct Tally {
     pub same: u64,
 }
 
-// How far the replay is: the place in the lists, the number of the next record from 1, the tallies, whether the records are the
-// altered ones, and whether there is more to do.
+// Which list the records are of, or that both are at their end.
+#[derive(Clone, Copy, PartialEq, Eq)]
+pub enum Part {
+    Stored,
+    Altered,
+    Ended,
+}
+
+// How far the replay is: the number of the next record from 1, the tallies, and which list is being replayed.
 #[derive(Clone, Copy)]
 pub struct Run {
-    pub place: Place,
     pub record: u64,
     pub tallies: [Tally; TALLIES],
-    pub is_altered: bool,
-    pub has_more: bool,
+    pub part: Part,
 }
 
-// One more, or the largest number.
-fn more(n: u64) -> u64
-    ensures { n < 18446744073709551615 → result ≡ n + 1 }
-{
-    if n < u64::MAX { n + 1 } else { n }
-}
-
-// The tally with one more call.
-fn counted(t: Tally, is_same: bool) -> Tally {
-    let same = if is_same { more(t.same) } else { t.same };
-    Tally {
-        calls: more(t.calls),
-        same,
+impl Tally {
+    // One more call.
+    fn count(&mut self, is_same: bool)
+        ensures { self.new ≡ counted self.old is_same }
+    {
+        self.calls = self.calls.saturating_add(1);
+        if is_same {
+            self.same = self.same.saturating_add(1);
+        }
     }
 }
 
-// The run before anything is read.
-pub fn begun() -> Run
-    ensures { (result.is_altered ≡ false) × (result.has_more ≡ true) }
-{
-    let tallies = [Tally { calls: 0, same: 0 }; TALLIES];
-    Run {
-        place: stored::begin(),
-        record: 1,
-        tallies,
-        is_altered: false,
-        has_more: true,
+impl Run {
+    // The run before anything is read.
+    pub fn new() -> Run
+        ensures { result.part ≡ Stored }
+    {
+        Run {
+            record: 1,
+            tallies: [Tally { calls: 0, same: 0 }; TALLIES],
+            part: Part::Stored,
+        }
     }
-}
 
-// The run stops at a place.
-pub fn stopped(r: Run, at: Place) -> Run
-    ensures { (result.place ≡ at) × (result.tallies ≡ r.tallies) × (result.is_altered ≡ r.is_altered) × (result.has_more ≡ false) }
-{
-    let tallies = r.tallies;
-    Run {
-        place: at,
-        record: r.record,
-        tallies,
-        is_altered: r.is_altered,
-        has_more: false,
+    // The run at the end of a list: the altered records come next, and behind them nothing.
+    pub fn end_list(&mut self)
+        ensures part_after { self.new.part ≡ part_behind self.old.part }
+        ensures tallies_value { self.new.tallies ≡ self.old.tallies }
+        ensures record_value { self.new.record ≡ self.old.record }
+    {
+        self.part = match self.part {
+            Part::Stored => Part::Altered,
+            Part::Altered | Part::Ended => Part::Ended,
+        };
     }
-}
 
-// The run at the end of a list that is whole: the altered records come next, and behind them nothing.
-pub fn ended(r: Run, at: Place) -> Run
-    ensures { (result.place ≡ at) × (result.tallies ≡ r.tallies) × (result.is_altered ≡ true) × (result.has_more ≡ not r.is_altered) }
-{
-    let tallies = r.tallies;
-    Run {
-        place: at,
-        record: r.record,
-        tallies,
-        is_altered: true,
-        has_more: !r.is_altered,
+    // One more call with this number is counted. The altered records have a tally of their own.
+    pub fn count(&mut self, number: u64, is_same: bool)
+        ensures { self.new.part ≡ self.old.part }
+    {
+        let tally = match self.part {
+            Part::Stored => number as usize,
+            Part::Altered | Part::Ended => ALTERED,
+        };
+        if tally < TALLIES {
+            self.tallies[tally].count(is_same);
+        }
+        self.record = self.record.saturating_add(1);
     }
-}
 
-// Which tally counts a call with this number.
-fn tally_of(number: u64, is_altered: bool) -> usize {
-    if is_altered { ALTERED } else { number as usize }
-}
-
-// The tallies with one more call.
-fn tallied(t: [Tally; TALLIES], tally: usize, is_same: bool) -> [Tally; TALLIES] {
-    let mut tallies = t;
-    if tally < TALLIES {
-        tallies[tally] = counted(tallies[tally], is_same);
+    // Writes how many calls answered the same: a line for each kind of call, and one for the altered records.
+    pub fn write(&self) {
+        for (k, name) in NAMES.iter().enumerate() {
+            write_tally(name, self.tallies[k + 1]);
+        }
+        write_tally(b"altered", self.tallies[ALTERED]);
     }
-    tallies
-}
 
-// The run after a call with this number that was read up to a place.
-pub fn done(r: Run, number: u64, at: Place) -> Run
-    ensures { (result.place ≡ at) × (result.is_altered ≡ r.is_altered) × (result.has_more ≡ true) }
-{
-    let before = r.tallies;
-    let tallies = tallied(before, tally_of(number, r.is_altered), at.is_same);
-    Run {
-        place: at,
-        record: more(r.record),
-        tallies,
-        is_altered: r.is_altered,
-        has_more: true,
+    // Writes at which record the list is damaged.
+    pub fn write_damage(&self) {
+        io::write_all(STDOUT_FILENO, b"the list is damaged at record ");
+        write_count(self.record, b"\n");
     }
 }
 
@@ -126,43 +123,9 @@ fn write_count(n: u64, s: &[u8]) {
 }
 
 // Writes the line of a tally.
-fn write_tally(name: &[u8], t: [Tally; TALLIES], k: usize) {
-    if k < TALLIES {
-        io::write_all(STDOUT_FILENO, name);
-        io::write_all(STDOUT_FILENO, b": ");
-        write_count(t[k].calls, b" calls, ");
-        write_count(t[k].same, b" same\n");
-    }
-}
-
-fn write_damage(record: u64) {
-    io::write_all(STDOUT_FILENO, b"the list is damaged at record ");
-    io::print_decimal(STDOUT_FILENO, record);
-    io::write_all(STDOUT_FILENO, b"\n");
-}
-
-// Writes a line for each kind of call, and one for the altered records.
-fn write_tallies(t: [Tally; TALLIES]) {
-    write_tally(b"split_closed_edges", t, 1);
-    write_tally(b"get_mindiff", t, 2);
-    write_tally(b"nearest_copy", t, 3);
-    write_tally(b"boundary_type", t, 4);
-    write_tally(b"sort_wires", t, 5);
-    write_tally(b"nearest_correction", t, 6);
-    write_tally(b"find_non_simple_wire_divisor", t, 7);
-    write_tally(b"cut_edge_by_intersections", t, 8);
-    write_tally(b"connect_open_boundaries", t, 9);
-    write_tally(b"split_boundaries_by_divisor", t, 10);
-    write_tally(b"altered", t, ALTERED);
-}
-
-// Writes how many calls answered the same, or where the list is damaged.
-pub fn write_end(r: Run) {
-    let place = r.place;
-    let tallies = r.tallies;
-    if place.is_whole {
-        write_tallies(tallies);
-    } else {
-        write_damage(r.record);
-    }
+fn write_tally(name: &[u8], t: Tally) {
+    io::write_all(STDOUT_FILENO, name);
+    io::write_all(STDOUT_FILENO, b": ");
+    write_count(t.calls, b" calls, ");
+    write_count(t.same, b" same\n");
 }

@@ -1,5 +1,8 @@
-// Records written to the cells of their rows in lent slices, room for a result, and runs of numbers.
+// Records in the rows of lent slices: written to their cells, and tables of them; room for a result; runs of numbers.
 #![tactic(auto)]
+
+pub mod lent;
+pub mod tables;
 
 ghost use Rattle.std.specs.Prelude.{◌≡◌, ◌++◌, ◌+◌, ◌*◌, ◌≤◌, length, take, drop};
 ghost use Rattle.std.proofs.lemmas.List.Edits.{sets};

@@ -1,15 +1,17 @@
 // The vertices on the divisor of a split with their causes, and the seams that they make.
 #![tactic(auto)]
 
-ghost use Rattle.std.specs.Prelude.{◌≡◌, ℕ, ◌+◌, ◌*◌, ◌≤◌, ◌<◌, [], length, get_or};
+ghost use Rattle.std.specs.Prelude.{◌≡◌, ℕ, ◌+◌, ◌*◌, ◌/◌, ◌≤◌, ◌<◌, [], length, get_or};
 ghost use Rattle.std.specs.Float.{nan};
 ghost use Rattle.compress.specs.Layout.{store_from, rows};
 ghost use Rattle.compress.specs.Rows.{edge_number_layout, edge_float_layout};
 ghost use Rattle.compress.specs.Refusals.{cause_of};
+ghost use Rattle.rows.specs.Places.{SameTable};
 ghost use Rattle.seams.specs.Seams.{stop_at, seam_of, seams_of, repeats_after};
 ghost use Rattle.seams.specs.Stops.{odd_cause, repeat_cause, stop_cause, stops_cause};
 
 use compress::{Checked, Curve, Edge, Refusal, Uv};
+use rows::tables::TableMut;
 
 // ---- the vertices on the divisor
 
@@ -20,28 +22,38 @@ pub struct Stop {
     pub point: Uv,
 }
 
+// The divisor, as a host lends it: vertices, their uv points of two floats each, and how many they are said to be.
+// Nothing is checked of it here.
+#[derive(Clone, Copy)]
+pub struct Divisor<'a> {
+    pub vertices: &'a [u32],
+    pub points: &'a [f64],
+    pub count: usize,
+}
+
 // The vertex in row i.
-fn stop_at(divisor: &[u32], points: &[f64], i: usize) -> Stop
-    requires { (i < length divisor.now) × (i * 2 + 2 ≤ length points.now) }
-    ensures { result ≡ stop_at divisor.now points.now i }
+fn stop_at(divisor: &Divisor, i: usize) -> Stop
+    requires { (i < length divisor.now.vertices.now) × (i * 2 + 2 ≤ length divisor.now.points.now) }
+    ensures { result ≡ stop_at divisor.now.vertices.now divisor.now.points.now i }
 {
+    let points = divisor.points;
     let a = i * 2;
     let point = Uv {
         u: points[a],
         v: points[a + 1],
     };
     Stop {
-        vertex: divisor[i],
+        vertex: divisor.vertices[i],
         point,
     }
 }
 
 #[tactic(auto, unfolding(crate::specs::Stops::stop_cause))]
-fn stop_cause(vertices: usize, divisor: &[u32], points: &[f64], i: usize) -> Checked
-    requires { (i < length divisor.now) × (i * 2 + 2 ≤ length points.now) }
-    ensures { cause_of result ≡ stop_cause vertices divisor.now points.now i }
+fn stop_cause(vertices: usize, divisor: &Divisor, i: usize) -> Checked
+    requires { (i < length divisor.now.vertices.now) × (i * 2 + 2 ≤ length divisor.now.points.now) }
+    ensures { cause_of result ≡ stop_cause vertices divisor.now.vertices.now divisor.now.points.now i }
 {
-    let stop = stop_at(divisor, points, i);
+    let stop = stop_at(divisor, i);
     checks::lower(
         checks::vertex_number(vertices, stop.vertex),
         checks::uv(stop.point),
@@ -50,13 +62,14 @@ fn stop_cause(vertices: usize, divisor: &[u32], points: &[f64], i: usize) -> Che
 
 // Causes 1, 2 and 4 of the vertices on the divisor.
 #[tactic(auto, using(std::proofs::lemmas::Bool::Decides::nat_tests), unfolding(crate::specs::Stops::stops_cause))]
-pub fn stops_cause(vertices: usize, divisor: &[u32], points: &[f64], count: usize) -> Checked
-    ensures { cause_of result ≡ stops_cause vertices divisor.now points.now count }
+pub fn stops_cause(vertices: usize, divisor: &Divisor) -> Checked
+    ensures { cause_of result ≡ stops_cause vertices divisor.now.vertices.now divisor.now.points.now divisor.now.count }
 {
-    if divisor.len() < count || points.len() / 2 < count {
+    let count = divisor.count;
+    if divisor.vertices.len() < count || divisor.points.len() / 2 < count {
         return Err(Refusal::Malformed);
     }
-    checks::lowest_cause(count, |i| stop_cause(vertices, divisor, points, i))
+    checks::lowest_cause(count, |i| stop_cause(vertices, divisor, i))
 }
 
 // Cause 9.
@@ -86,15 +99,17 @@ fn repeats_in<const N: usize>(divisor: &[u32]) -> bool
 }
 
 // Cause 10. Few vertices have a small table, since to clear it takes time.
-pub fn repeat_cause(divisor: &[u32], count: usize, vertices: usize) -> Checked
-    requires { (count ≤ length divisor.now) × ((k : ℕ) → k < count → get_or divisor.now k 0 < vertices) × (vertices ≤ 4096) }
-    ensures { cause_of result ≡ repeat_cause divisor.now count }
+pub fn repeat_cause(divisor: &Divisor, vertices: usize) -> Checked
+    requires lent { divisor.now.count ≤ length divisor.now.vertices.now }
+    requires known { (k : ℕ) → k < divisor.now.count → get_or divisor.now.vertices.now k 0 < vertices }
+    requires few { vertices ≤ 4096 }
+    ensures { cause_of result ≡ repeat_cause divisor.now.vertices.now divisor.now.count }
 {
-    let divisor = &divisor[..count];
+    let stops = &divisor.vertices[..divisor.count];
     let repeats = if vertices <= 64 {
-        repeats_in::<64>(divisor)
+        repeats_in::<64>(stops)
     } else {
-        repeats_in::<4096>(divisor)
+        repeats_in::<4096>(stops)
     };
     checks::cause_when(repeats, Refusal::RepeatedVertex)
 }
@@ -119,24 +134,22 @@ fn seam_of(surface: u32, a: Stop, b: Stop) -> Edge
     }
 }
 
-// `create_new_edges`: n seams are written to the rows from `edges` on.
-pub fn create_new_edges(
-    edge_numbers: &mut [u32],
-    edge_floats: &mut [f64],
-    divisor: &[u32],
-    points: &[f64],
-    surface: u32,
-    edges: usize,
-    n: usize,
-)
-    requires n_in_bounds { ((edges + n) * 4 ≤ length edge_numbers.old) × ((edges + n) * 6 ≤ length edge_floats.old) }
-    requires n_in_bounds_2 { (n * 2 ≤ length divisor.now) × (n * 4 ≤ length points.now) }
-    ensures edge_numbers_after { edge_numbers.new ≡ store_from edge_number_layout edge_numbers.old edges (seams_of surface (rows (stop_at divisor.now points.now) 0 (n * 2))) }
-    ensures edge_floats_after { edge_floats.new ≡ store_from edge_float_layout edge_floats.old edges (seams_of surface (rows (stop_at divisor.now points.now) 0 (n * 2))) }
+// `create_new_edges`: a seam for each pair of vertices of the divisor is written to the rows past the table.
+pub fn create_new_edges(edges: &mut TableMut<Edge>, divisor: &Divisor, surface: u32)
+    requires numbers_room { (edges.old.count + divisor.now.count / 2) * 4 ≤ length edges.old.numbers.now }
+    requires floats_room { (edges.old.count + divisor.now.count / 2) * 6 ≤ length edges.old.floats.now }
+    requires stops_lent { divisor.now.count / 2 * 2 ≤ length divisor.now.vertices.now }
+    requires points_lent { divisor.now.count / 2 * 4 ≤ length divisor.now.points.now }
+    ensures edge_numbers_after { let stops = rows (stop_at divisor.now.vertices.now divisor.now.points.now) 0 (divisor.now.count / 2 * 2) in
+        edges.new.numbers.now ≡ store_from edge_number_layout edges.old.numbers.now edges.old.count (seams_of surface stops) }
+    ensures edge_floats_after { let stops = rows (stop_at divisor.now.vertices.now divisor.now.points.now) 0 (divisor.now.count / 2 * 2) in
+        edges.new.floats.now ≡ store_from edge_float_layout edges.old.floats.now edges.old.count (seams_of surface stops) }
+    ensures same { SameTable edges.old edges.new }
 {
-    for i in 0..n {
-        let a = stop_at(divisor, points, i * 2);
-        let b = stop_at(divisor, points, i * 2 + 1);
-        rows::put_edge(edge_numbers, edge_floats, edges + i, seam_of(surface, a, b));
+    let first = edges.count;
+    for i in 0..divisor.count / 2 {
+        let a = stop_at(divisor, i * 2);
+        let b = stop_at(divisor, i * 2 + 1);
+        edges.put(first + i, seam_of(surface, a, b));
     }
 }

@@ -4,3 +4,4 @@ pub mod Contract
 pub mod Steps
 pub mod Demand
 pub mod Examples
+pub mod Left

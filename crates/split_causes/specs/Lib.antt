@@ -1,2 +1,3 @@
 -- The definitions of what a split is lent and of its causes before the walk.
 pub mod Causes
+pub mod Lent

@@ -1,5 +1,8 @@
 -- What the mending of the wires in the closed-edge pass asks and leaves. Definitions only.
 use Rattle.std.specs.Prelude.{◌≡◌, Result, Ok, Err, IfOk, List, ℕ, leb, Float, length, take}
+use Rattle.compress.specs.declared.Edge.{Edge}
+use Rattle.rows.specs.declared.tables.Table.{Table}
+use Rattle.rows.specs.declared.lent.WiresMut.{WiresMut}
 use Rattle.compress.specs.Layout.{rows}
 use Rattle.compress.specs.Rows.{edge_at}
 use Rattle.compress.specs.Wires.{wires_of}
@@ -24,3 +27,8 @@ pub record ClosedMended (en : List ℕ) (edges wires room : ℕ) (us ls us' ls' 
   pub cut : (ef : List Float) → IfOk r (λ m. m.cuts ≡ closed_in en ef edges)
   pub mended : (ef : List Float) → InPlace (replace_wires (added_to (length (rows (edge_at en ef) 0 edges)) (rows (edge_at en ef) 0 edges)) (wires_of us (take wires ls)))
       (leb (closed_in en ef edges) room) us ls us' ls' (uses_told r)
+
+-- the same of the structs that hold the slices
+abbrev pub closed_mended : Table Edge → ℕ → WiresMut → WiresMut → Result Closing NoRoom → Type 0
+closed_mended edges room before after r =
+    ClosedMended edges.numbers.now edges.count before.count room before.uses.now before.lengths.now after.uses.now after.lengths.now r

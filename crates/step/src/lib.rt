@@ -7,6 +7,7 @@ ghost use Rattle.lists.specs.Lists.{Tables};
 ghost use Rattle.step.specs.Arrival.{exactly_one, Went};
 
 use compress::Refusal;
+use lists::UseLists;
 
 fn marked(marks: &[u32], u: u32) -> bool
     requires { u / 2 < length marks.now }
@@ -29,35 +30,36 @@ fn takes_first(marks: &[u32], last: u32, first: u32) -> bool
 pub fn onward(
     marks: &[u32],
     uses: &[u32],
-    head: &mut [u16; 4096],
-    next: &mut [u16; 1024],
+    lists: &mut UseLists,
     v: usize,
     last: u32,
 ) -> Result<u32, Refusal>
-    requires v_bound { (v < 4096) × (length uses.now ≤ 1024) × (last / 2 < length marks.now) }
-    requires by_index { (i : ℕ) → i < length uses.now → get_or uses.now i 0 / 2 < length marks.now }
-    requires tables { Tables (length uses.now) head.old next.old }
-    ensures { Went (marked_of marks.now) uses.now head.old next.old v last result head.new next.new }
+    requires in_table { v < 4096 }
+    requires few { length uses.now ≤ 1024 }
+    requires last_marked { last / 2 < length marks.now }
+    requires marked { (i : ℕ) → i < length uses.now → get_or uses.now i 0 / 2 < length marks.now }
+    requires tables { Tables (length uses.now) lists.old.head lists.old.next }
+    ensures { Went (marked_of marks.now) uses.now lists.old.head lists.old.next v last result lists.new.head lists.new.next }
 {
-    let p = match head[v] {
+    let p = match lists.head[v] {
         0 => return Err(Refusal::DeadEnd),
         1 => return Err(Refusal::EmptyList),
         h => usize::from(h) - 2,
     };
-    let m = next[p];
+    let m = lists.next[p];
     if m == 0 {
-        head[v] = 0;
+        lists.head[v] = 0;
         return Ok(uses[p]);
     }
     let a = usize::from(m) - 1;
-    if next[a] != 0 {
+    if lists.next[a] != 0 {
         return Err(Refusal::TooManyUses);
     }
     let first = uses[a];
     if takes_first(marks, last, first) {
-        next[p] = 0;
+        lists.next[p] = 0;
         return Ok(first);
     }
-    head[v] = m + 1;
+    lists.head[v] = m + 1;
     Ok(uses[p])
 }

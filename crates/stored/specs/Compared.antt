@@ -1,9 +1,9 @@
--- What a word is, what a place in the list remembers of what was compared, and what a refill keeps. Definitions only.
+-- What a word is, what a reader of the list remembers of what was compared, and what a refill keeps. Definitions only.
 use Rattle.std.specs.Prelude.{◌≡◌, Bool, true, ◌&&◌, List, ℕ, ◌+◌, ◌*◌, ◌-◌, ◌<◌, get_or}
-use Rattle.stored.specs.declared.Place.{Place}
+use Rattle.stored.specs.declared.Reader.{Reader}
 
 -- a difference that was met before is not forgotten
-abbrev pub Remembers : Place → Place → Type 0
+abbrev pub Remembers : Reader → Reader → Type 0
 Remembers before after = after.is_same ≡ true → before.is_same ≡ true
 
 -- the four bytes from a place on as a number, the lowest first; past the end a byte is 0
@@ -14,13 +14,13 @@ half_at s at = get_or s at 0 + get_or s (at + 1) 0 * 256 + get_or s (at + 2) 0 *
 unfoldable pub word_at : List ℕ → ℕ → ℕ
 word_at s at = half_at s at + half_at s (at + 4) * 4294967296
 
--- the word that stands just before a place
-abbrev pub word_before : List ℕ → Place → ℕ
-word_before s p = word_at s (p.at - 8)
+-- the word that stands just before the next one
+abbrev pub word_before : Reader → ℕ
+word_before r = word_at r.buf.now (r.at - 8)
 
--- where the list is whole, a place says "same" just if it said so before and the word that was read passes a test
-abbrev pub Tested : List ℕ → (ℕ → Bool) → Place → Place → Type 0
-Tested s test before after = after.is_whole ≡ true → after.is_same ≡ (before.is_same && test (word_before s after))
+-- a reader says "same" just if it said so before and the word that was read passes a test
+abbrev pub Tested : (ℕ → Bool) → Reader → Reader → Type 0
+Tested test before after = after.is_same ≡ (before.is_same && test (word_before after))
 
 -- the first n bytes from a place on stand from another place on in another buffer
 abbrev pub Moved : List ℕ → ℕ → ℕ → List ℕ → ℕ → Type 0

@@ -1,10 +1,6 @@
 -- A buffer has at most 64 cells, and its array has them all. Definitions only.
 use Rattle.std.specs.Prelude.{◌≤◌, length}
-use Rattle.stored_cells.specs.declared.Floats.{Floats}
-use Rattle.stored_cells.specs.declared.Numbers.{Numbers}
+use Rattle.stored_cells.specs.declared.Buffer.{Buffer}
 
-abbrev pub NumbersFit : Numbers → Type 0
-NumbersFit n = (n.count ≤ 64) × (n.count ≤ length n.cells)
-
-abbrev pub FloatsFit : Floats → Type 0
-FloatsFit f = (f.count ≤ 64) × (f.count ≤ length f.cells)
+abbrev pub Fits : {T : Type 0} → Buffer T → Type 0
+Fits b = (b.count ≤ 64) × (b.count ≤ length b.cells)

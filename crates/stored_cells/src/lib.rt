@@ -1,55 +1,40 @@
 // Numbers, floats and buffers of them: read from the list, and compared with what stands there.
 #![tactic(auto)]
 
-ghost use Rattle.std.specs.Prelude.{◌≡◌, ◌≤◌};
+ghost use Rattle.std.specs.Prelude.{◌≡◌, ◌≤◌, ℕ, Bool, eqb, take, IfOk, OnOk};
 ghost use Rattle.std.specs.Float.{binary64};
 ghost use Rattle.std.specs.Float.Ieee.{nan_bits};
 ghost use Rattle.stored.specs.Compared.{Remembers, Tested};
-ghost use Rattle.stored_cells.specs.Fits.{FloatsFit, NumbersFit};
+ghost use Rattle.stored_cells.specs.Fits.{Fits};
 ghost use Rattle.stored_cells.specs.Floats.{float_of, has_pattern};
 
-use stored::{MOST, Place};
+use stored::{Damaged, MOST, Reader};
 
-// A number of 32 bits from the list, and the place past it.
-#[derive(Clone, Copy)]
-pub struct Number {
-    pub value: u32,
-    pub place: Place,
+// What a cell of a buffer holds: it stands in one word of the list.
+pub trait Cell: Copy {
+    // Is this the word of the value?
+    ghost has_word: { Self → ℕ → Bool };
+
+    // What a cell holds before it is read.
+    const ZERO: Self;
+
+    // Reads a value.
+    fn next(list: &mut Reader<'_>) -> Result<Self, Damaged>
+        ensures is_same_value { list.new.is_same ≡ list.old.is_same }
+        ensures buf_value { list.new.buf.now ≡ list.old.buf.now };
+
+    // Reads a word and compares the value with the one that it stands for.
+    fn compare(self, list: &mut Reader<'_>) -> Result<(), Damaged>
+        ensures remembers { Remembers list.old list.new }
+        ensures buf_value { list.new.buf.now ≡ list.old.buf.now }
+        ensures tested { OnOk result (Tested (has_word self) list.old list.new) };
 }
 
-// A float from the list, and the place past it.
+// A buffer: the first `count` cells.
 #[derive(Clone, Copy)]
-pub struct Real {
-    pub value: f64,
-    pub place: Place,
-}
-
-// A buffer of numbers: the first `count` cells.
-#[derive(Clone, Copy)]
-pub struct Numbers {
-    pub cells: [u32; MOST],
+pub struct Buffer<T> {
+    pub cells: [T; MOST],
     pub count: usize,
-}
-
-// A buffer of floats: the first `count` cells.
-#[derive(Clone, Copy)]
-pub struct Floats {
-    pub cells: [f64; MOST],
-    pub count: usize,
-}
-
-// A buffer of numbers from the list, and the place past it.
-#[derive(Clone, Copy)]
-pub struct NumbersRead {
-    pub numbers: Numbers,
-    pub place: Place,
-}
-
-// A buffer of floats from the list, and the place past it.
-#[derive(Clone, Copy)]
-pub struct FloatsRead {
-    pub floats: Floats,
-    pub place: Place,
 }
 
 // ---- floats
@@ -71,18 +56,6 @@ fn float_of(bits: u64) -> f64
     f64::from_bits(bits)
 }
 
-// Reads a float.
-pub fn next_float(buf: &[u8], p: Place) -> Real
-    ensures { result.place.is_same ≡ p.is_same }
-{
-    let w = stored::next(buf, p);
-    let place = w.place;
-    Real {
-        value: float_of(w.bits),
-        place,
-    }
-}
-
 // Has x this bit pattern? A NaN has that of any NaN.
 fn has_pattern(x: f64, bits: u64) -> bool
     ensures { result ≡ has_pattern x bits }
@@ -93,120 +66,85 @@ fn has_pattern(x: f64, bits: u64) -> bool
     is_nan_pattern(bits)
 }
 
-// Reads a word and compares a float with the one that has its bits.
-pub fn compare_float(buf: &[u8], p: Place, x: f64) -> Place
-    ensures remembers { Remembers p result }
-    ensures tested { Tested buf.now (has_pattern x) p result }
-{
-    let w = stored::next(buf, p);
-    stored::same_if(w.place, has_pattern(x, w.bits))
+impl Cell for f64 {
+    ghost has_word = { has_pattern };
+
+    const ZERO: f64 = 0.0;
+
+    fn next(list: &mut Reader<'_>) -> Result<f64, Damaged> {
+        let bits = list.next()?;
+        Ok(float_of(bits))
+    }
+
+    fn compare(self, list: &mut Reader<'_>) -> Result<(), Damaged> {
+        let bits = list.next()?;
+        list.same_if(has_pattern(self, bits));
+        Ok(())
+    }
 }
 
 // ---- numbers
 
-fn wide(n: u32) -> u64 {
-    n as u64
-}
+impl Cell for u32 {
+    ghost has_word = { λ n w. eqb w n };
 
-// Reads a number of 32 bits. A word above those is taken as 0, and the list is damaged.
-pub fn next_number(buf: &[u8], p: Place) -> Number
-    ensures { result.place.is_same ≡ p.is_same }
-{
-    let w = stored::next(buf, p);
-    let place = w.place;
-    let n = w.bits;
-    if n <= 0xffff_ffff {
-        return Number {
-            value: n as u32,
-            place,
-        };
+    const ZERO: u32 = 0;
+
+    // A word above those of 32 bits is no number.
+    fn next(list: &mut Reader<'_>) -> Result<u32, Damaged> {
+        let word = list.next()?;
+        u32::try_from(word).map_err(|_| Damaged)
     }
-    Number {
-        value: 0,
-        place: stored::damaged(place),
+
+    fn compare(self, list: &mut Reader<'_>) -> Result<(), Damaged> {
+        list.compare(u64::from(self))
     }
 }
 
 // ---- buffers
 
-// Reads a buffer of so many numbers.
-pub fn fill_numbers(buf: &[u8], p: Place, count: usize) -> NumbersRead
-    requires { count ≤ 64 }
-    ensures { NumbersFit result.numbers × (result.numbers.count ≡ count) × (result.place.is_same ≡ p.is_same) }
-{
-    let mut cells = [0u32; MOST];
-    let mut place = p;
-    let mut i = 0;
-    while i < count {
-        let n = next_number(buf, place);
-        cells[i] = n.value;
-        place = n.place;
-        i += 1;
+impl<T: Cell> Buffer<T> {
+    // Reads a buffer of so many cells.
+    pub fn fill(list: &mut Reader<'_>, count: usize) -> Result<Buffer<T>, Damaged>
+        requires { count ≤ 64 }
+        ensures fits { IfOk result (λ b. Fits b × (b.count ≡ count)) }
+        ensures is_same_value { list.new.is_same ≡ list.old.is_same }
+        ensures buf_value { list.new.buf.now ≡ list.old.buf.now }
+    {
+        let mut cells = [T::ZERO; MOST];
+        for cell in &mut cells[..count] {
+            *cell = T::next(list)?;
+        }
+        Ok(Buffer { cells, count })
     }
-    let numbers = Numbers { cells, count };
-    NumbersRead { numbers, place }
-}
 
-// Reads a buffer of so many floats.
-pub fn fill_floats(buf: &[u8], p: Place, count: usize) -> FloatsRead
-    requires { count ≤ 64 }
-    ensures { FloatsFit result.floats × (result.floats.count ≡ count) × (result.place.is_same ≡ p.is_same) }
-{
-    let mut cells = [0.0f64; MOST];
-    let mut place = p;
-    let mut i = 0;
-    while i < count {
-        let x = next_float(buf, place);
-        cells[i] = x.value;
-        place = x.place;
-        i += 1;
+    // Reads a length and as many cells.
+    pub fn read(list: &mut Reader<'_>) -> Result<Buffer<T>, Damaged>
+        ensures fits { IfOk result Fits }
+        ensures is_same_value { list.new.is_same ≡ list.old.is_same }
+        ensures buf_value { list.new.buf.now ≡ list.old.buf.now }
+    {
+        let count = list.next_length()?;
+        Buffer::fill(list, count)
     }
-    let floats = Floats { cells, count };
-    FloatsRead { floats, place }
-}
 
-// Reads a length and as many numbers.
-pub fn read_numbers(buf: &[u8], p: Place) -> NumbersRead
-    ensures { NumbersFit result.numbers × (result.place.is_same ≡ p.is_same) }
-{
-    let n = stored::next_length(buf, p);
-    fill_numbers(buf, n.place, n.count)
-}
-
-// Reads a length and as many floats.
-pub fn read_floats(buf: &[u8], p: Place) -> FloatsRead
-    ensures { FloatsFit result.floats × (result.place.is_same ≡ p.is_same) }
-{
-    let n = stored::next_length(buf, p);
-    fill_floats(buf, n.place, n.count)
-}
-
-// Compares a buffer of numbers with the list.
-pub fn compare_numbers(buf: &[u8], p: Place, numbers: Numbers) -> Place
-    requires { NumbersFit numbers }
-    ensures { Remembers p result }
-{
-    let cells = numbers.cells;
-    let mut place = p;
-    let mut i = 0;
-    while i < numbers.count {
-        place = stored::compare(buf, place, wide(cells[i]));
-        i += 1;
+    // The cells.
+    pub fn cells(&self) -> &[T]
+        requires { Fits self.now }
+        ensures { result.now ≡ take self.now.count self.now.cells }
+    {
+        &self.cells[..self.count]
     }
-    place
-}
 
-// Compares a buffer of floats with the list.
-pub fn compare_floats(buf: &[u8], p: Place, floats: Floats) -> Place
-    requires { FloatsFit floats }
-    ensures { Remembers p result }
-{
-    let cells = floats.cells;
-    let mut place = p;
-    let mut i = 0;
-    while i < floats.count {
-        place = compare_float(buf, place, cells[i]);
-        i += 1;
+    // Compares a buffer with the list.
+    pub fn compare(&self, list: &mut Reader<'_>) -> Result<(), Damaged>
+        requires { Fits self.now }
+        ensures remembers { Remembers list.old list.new }
+        ensures buf_value { list.new.buf.now ≡ list.old.buf.now }
+    {
+        for cell in self.cells() {
+            cell.compare(list)?;
+        }
+        Ok(())
     }
-    place
 }

@@ -1,114 +1,125 @@
 // The answer of a call as the list has it, and its comparison.
-ghost use Rattle.std.specs.Prelude.{◌≡◌};
-ghost use Rattle.compress.specs.Refusals.{refusal_number};
+ghost use Rattle.std.specs.Prelude.{◌≡◌, get_or};
 ghost use Rattle.stored.specs.Compared.{Remembers};
-ghost use Rattle.stored_records.specs.Fits.{PairFits, ShellFits};
+ghost use Rattle.stored_records.specs.Answers.{answer_if, answer_of, bare};
 
-use crate::tables;
-use compress::Refusal;
-use stored::Place;
-use tables::{Pair, Shell};
+use compress::{Counts, Refusal};
+use stored::{Damaged, Reader};
 
 // The answer "none" of a call.
 const NONE: u64 = u64::MAX;
 
-// 0 with up to three values, or "none" or the number of the refusal with zeros.
+// What a call told: up to three values, with zeros for those that it has not.
 #[derive(Clone, Copy)]
-pub struct Answer {
-    pub number: u64,
+pub struct Told {
     pub first: u64,
     pub second: u64,
     pub third: u64,
 }
 
-// What a call answered, and the two buffers of numbers that were lent to be written to, as the call left them.
+// 0 with what the call told, or "none" or the number of the refusal with zeros.
 #[derive(Clone, Copy)]
-pub struct Left {
-    pub answer: Answer,
-    pub buffers: Pair,
+pub struct Answer {
+    pub number: u64,
+    pub told: Told,
 }
 
-// What a call answered, and the shell as the call left it.
-#[derive(Clone, Copy)]
-pub struct ShellLeft {
-    pub answer: Answer,
-    pub shell: Shell,
-}
+impl From<usize> for Told {
+    ghost from_gives = { λ n t. t ≡ record { first = n; second = 0; third = 0 } };
 
-fn no_result(number: u64) -> Answer
-    ensures { result ≡ record { number = number; first = 0; second = 0; third = 0 } }
-{
-    Answer {
-        number,
-        first: 0,
-        second: 0,
-        third: 0,
+    fn from(n: usize) -> Told {
+        Told {
+            first: n as u64,
+            second: 0,
+            third: 0,
+        }
     }
 }
 
-// The answer "none".
-pub fn none() -> Answer
-    ensures { result ≡ record { number = 18446744073709551615; first = 0; second = 0; third = 0 } }
-{
-    no_result(NONE)
-}
+impl From<[usize; 3]> for Told {
+    ghost from_gives = { λ n t. t ≡ record { first = get_or n 0 0; second = get_or n 1 0; third = get_or n 2 0 } };
 
-pub fn refused(r: Refusal) -> Answer
-    ensures { result ≡ record { number = refusal_number r; first = 0; second = 0; third = 0 } }
-{
-    no_result(u32::from(r) as u64)
-}
-
-// The results of a call.
-pub fn told(first: u64, second: u64, third: u64) -> Answer
-    ensures { result ≡ record { number = 0; first = first; second = second; third = third } }
-{
-    Answer {
-        number: 0,
-        first,
-        second,
-        third,
+    fn from(n: [usize; 3]) -> Told {
+        Told {
+            first: n[0] as u64,
+            second: n[1] as u64,
+            third: n[2] as u64,
+        }
     }
 }
 
-// Compares an answer that has one value.
-pub fn compare_one(buf: &[u8], p: Place, a: Answer) -> Place
-    ensures { Remembers p result }
-{
-    let number = stored::compare(buf, p, a.number);
-    stored::compare(buf, number, a.first)
+impl From<Counts> for Told {
+    ghost from_gives = { λ n t. t ≡ record { first = n.vertices; second = n.edges; third = n.uses } };
+
+    fn from(n: Counts) -> Told {
+        Told::from([n.vertices, n.edges, n.uses])
+    }
 }
 
-// Compares an answer that has two values.
-pub fn compare_two(buf: &[u8], p: Place, a: Answer) -> Place
-    ensures { Remembers p result }
-{
-    let first = compare_one(buf, p, a);
-    stored::compare(buf, first, a.second)
+impl Answer {
+    // The answer with no values.
+    fn with_none(number: u64) -> Answer
+        ensures { result ≡ bare number }
+    {
+        Answer {
+            number,
+            told: Told {
+                first: 0,
+                second: 0,
+                third: 0,
+            },
+        }
+    }
+
+    // Compares an answer that has one value.
+    pub fn compare_one(&self, list: &mut Reader<'_>) -> Result<(), Damaged>
+        ensures remembers { Remembers list.old list.new }
+        ensures buf_value { list.new.buf.now ≡ list.old.buf.now }
+    {
+        list.compare(self.number)?;
+        list.compare(self.told.first)
+    }
+
+    // Compares an answer that has two values.
+    pub fn compare_two(&self, list: &mut Reader<'_>) -> Result<(), Damaged>
+        ensures remembers { Remembers list.old list.new }
+        ensures buf_value { list.new.buf.now ≡ list.old.buf.now }
+    {
+        self.compare_one(list)?;
+        list.compare(self.told.second)
+    }
+
+    // Compares an answer that has three values.
+    pub fn compare_three(&self, list: &mut Reader<'_>) -> Result<(), Damaged>
+        ensures remembers { Remembers list.old list.new }
+        ensures buf_value { list.new.buf.now ≡ list.old.buf.now }
+    {
+        self.compare_two(list)?;
+        list.compare(self.told.third)
+    }
 }
 
-// Compares an answer that has three values.
-pub fn compare_three(buf: &[u8], p: Place, a: Answer) -> Place
-    ensures { Remembers p result }
-{
-    let second = compare_two(buf, p, a);
-    stored::compare(buf, second, a.third)
+// The answer of a call that tells something or is refused.
+impl From<Result<Told, Refusal>> for Answer {
+    ghost from_gives = { λ r a. a ≡ answer_of r };
+
+    fn from(answer: Result<Told, Refusal>) -> Answer {
+        match answer {
+            Ok(told) => Answer { number: 0, told },
+            Err(r) => Answer::with_none(u64::from(u32::from(r))),
+        }
+    }
 }
 
-// Compares an answer that has one value, and the two buffers.
-pub fn compare_left(buf: &[u8], p: Place, left: Left) -> Place
-    requires { PairFits left.buffers }
-    ensures { Remembers p result }
-{
-    let told = compare_one(buf, p, left.answer);
-    tables::compare_pair(buf, told, left.buffers)
-}
+// The answer of a call that can also say "none".
+impl From<Result<Option<Told>, Refusal>> for Answer {
+    ghost from_gives = { λ r a. a ≡ answer_if r };
 
-// Compares an answer that has three values, and the shell.
-pub fn compare_shell_left(buf: &[u8], p: Place, left: ShellLeft) -> Place
-    requires { ShellFits left.shell }
-    ensures { Remembers p result }
-{
-    let told = compare_three(buf, p, left.answer);
-    tables::compare_shell(buf, told, left.shell)
+    fn from(answer: Result<Option<Told>, Refusal>) -> Answer {
+        match answer {
+            Ok(Some(told)) => Answer { number: 0, told },
+            Ok(None) => Answer::with_none(NONE),
+            Err(r) => Answer::with_none(u64::from(u32::from(r))),
+        }
+    }
 }

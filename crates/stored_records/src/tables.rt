@@ -1,23 +1,30 @@
 // The buffers that calls share: a table of rows, two buffers of numbers, and the tables and wires of a shell.
-ghost use Rattle.std.specs.Prelude.{◌≡◌};
+ghost use Rattle.std.specs.Prelude.{◌≡◌, IfOk};
 ghost use Rattle.stored.specs.Compared.{Remembers};
 ghost use Rattle.stored_records.specs.Fits.{PairFits, ShellFits, TableFits};
 
-use stored::{MOST, Place};
-use stored_cells::{Floats, Numbers};
+use stored::{Damaged, MOST, Reader};
+use stored_cells::Buffer;
+
+// How many vertices and edges a call was told.
+#[derive(Clone, Copy)]
+pub struct Counts {
+    pub vertices: usize,
+    pub edges: usize,
+}
 
 // A table of rows: its numbers, and its floats.
 #[derive(Clone, Copy)]
 pub struct Table {
-    pub numbers: Numbers,
-    pub floats: Floats,
+    pub numbers: Buffer<u32>,
+    pub floats: Buffer<f64>,
 }
 
 // Two buffers of numbers, as the uses and the lengths of wires.
 #[derive(Clone, Copy)]
 pub struct Pair {
-    pub first: Numbers,
-    pub second: Numbers,
+    pub first: Buffer<u32>,
+    pub second: Buffer<u32>,
 }
 
 // The two tables of a shell, and its wires or two stretches of uses.
@@ -28,178 +35,128 @@ pub struct Shell {
     pub wires: Pair,
 }
 
-// How many vertices and edges a call was told, and the place past them.
-#[derive(Clone, Copy)]
-pub struct Counts {
-    pub vertices: usize,
-    pub edges: usize,
-    pub place: Place,
-}
-
-// A table from the list, and the place past it.
-#[derive(Clone, Copy)]
-pub struct TableRead {
-    pub table: Table,
-    pub place: Place,
-}
-
-// Two buffers of numbers from the list, and the place past them.
-#[derive(Clone, Copy)]
-pub struct PairRead {
-    pub pair: Pair,
-    pub place: Place,
-}
-
-// A shell from the list, and the place past it.
-#[derive(Clone, Copy)]
-pub struct ShellRead {
-    pub shell: Shell,
-    pub place: Place,
-}
-
-// ---- read from the list
-
-pub fn read_counts(buf: &[u8], p: Place) -> Counts
-    ensures { result.place.is_same ≡ p.is_same }
+// A count from the list.
+pub fn read_count(list: &mut Reader<'_>) -> Result<usize, Damaged>
+    ensures is_same_value { list.new.is_same ≡ list.old.is_same }
+    ensures buf_value { list.new.buf.now ≡ list.old.buf.now }
 {
-    let vertices = stored::next(buf, p);
-    let edges = stored::next(buf, vertices.place);
-    let place = edges.place;
-    Counts {
-        vertices: vertices.bits as usize,
-        edges: edges.bits as usize,
-        place,
+    let n = list.next()?;
+    Ok(n as usize)
+}
+
+impl Counts {
+    pub fn read(list: &mut Reader<'_>) -> Result<Counts, Damaged>
+        ensures is_same_value { list.new.is_same ≡ list.old.is_same }
+        ensures buf_value { list.new.buf.now ≡ list.old.buf.now }
+    {
+        let vertices = read_count(list)?;
+        let edges = read_count(list)?;
+        Ok(Counts { vertices, edges })
     }
 }
 
-pub fn read_table(buf: &[u8], p: Place) -> TableRead
-    ensures { TableFits result.table × (result.place.is_same ≡ p.is_same) }
-{
-    let n = stored_cells::read_numbers(buf, p);
-    let f = stored_cells::read_floats(buf, n.place);
-    let numbers = n.numbers;
-    let floats = f.floats;
-    let place = f.place;
-    let table = Table { numbers, floats };
-    TableRead { table, place }
-}
+impl Table {
+    pub fn read(list: &mut Reader<'_>) -> Result<Table, Damaged>
+        ensures fits { IfOk result TableFits }
+        ensures is_same_value { list.new.is_same ≡ list.old.is_same }
+        ensures buf_value { list.new.buf.now ≡ list.old.buf.now }
+    {
+        let numbers = Buffer::read(list)?;
+        let floats = Buffer::read(list)?;
+        Ok(Table { numbers, floats })
+    }
 
-pub fn read_pair(buf: &[u8], p: Place) -> PairRead
-    ensures { PairFits result.pair × (result.place.is_same ≡ p.is_same) }
-{
-    let a = stored_cells::read_numbers(buf, p);
-    let b = stored_cells::read_numbers(buf, a.place);
-    let first = a.numbers;
-    let second = b.numbers;
-    let place = b.place;
-    let pair = Pair { first, second };
-    PairRead { pair, place }
-}
+    // The table with other cells in its buffers.
+    pub fn with(self, numbers: [u32; MOST], floats: [f64; MOST]) -> Table
+        requires { TableFits self }
+        ensures { TableFits result × (result.numbers.count ≡ self.numbers.count) × (result.floats.count ≡ self.floats.count) }
+    {
+        Table {
+            numbers: Buffer {
+                cells: numbers,
+                ..self.numbers
+            },
+            floats: Buffer {
+                cells: floats,
+                ..self.floats
+            },
+        }
+    }
 
-pub fn read_shell(buf: &[u8], p: Place) -> ShellRead
-    ensures { ShellFits result.shell × (result.place.is_same ≡ p.is_same) }
-{
-    let v = read_table(buf, p);
-    let e = read_table(buf, v.place);
-    let w = read_pair(buf, e.place);
-    let vertices = v.table;
-    let edges = e.table;
-    let wires = w.pair;
-    let place = w.place;
-    let shell = Shell {
-        vertices,
-        edges,
-        wires,
-    };
-    ShellRead { shell, place }
-}
-
-// ---- after a call
-
-// The table with other cells in its buffers.
-pub fn table_left(t: Table, numbers: [u32; MOST], floats: [f64; MOST]) -> Table
-    requires { TableFits t }
-    ensures { TableFits result × (result.numbers.count ≡ t.numbers.count) × (result.floats.count ≡ t.floats.count) }
-{
-    let n = Numbers {
-        cells: numbers,
-        count: t.numbers.count,
-    };
-    let f = Floats {
-        cells: floats,
-        count: t.floats.count,
-    };
-    Table {
-        numbers: n,
-        floats: f,
+    // Compares the table with the list.
+    pub fn compare(&self, list: &mut Reader<'_>) -> Result<(), Damaged>
+        requires { TableFits self.now }
+        ensures remembers { Remembers list.old list.new }
+        ensures buf_value { list.new.buf.now ≡ list.old.buf.now }
+    {
+        self.numbers.compare(list)?;
+        self.floats.compare(list)
     }
 }
 
-// The two buffers with other cells.
-pub fn pair_left(w: Pair, first: [u32; MOST], second: [u32; MOST]) -> Pair
-    requires { PairFits w }
-    ensures { PairFits result × (result.first.count ≡ w.first.count) × (result.second.count ≡ w.second.count) }
-{
-    let a = Numbers {
-        cells: first,
-        count: w.first.count,
-    };
-    let b = Numbers {
-        cells: second,
-        count: w.second.count,
-    };
-    Pair {
-        first: a,
-        second: b,
+impl Pair {
+    pub fn read(list: &mut Reader<'_>) -> Result<Pair, Damaged>
+        ensures fits { IfOk result PairFits }
+        ensures is_same_value { list.new.is_same ≡ list.old.is_same }
+        ensures buf_value { list.new.buf.now ≡ list.old.buf.now }
+    {
+        let first = Buffer::read(list)?;
+        let second = Buffer::read(list)?;
+        Ok(Pair { first, second })
+    }
+
+    // The two buffers with other cells.
+    pub fn with(self, first: [u32; MOST], second: [u32; MOST]) -> Pair
+        requires { PairFits self }
+        ensures { PairFits result × (result.first.count ≡ self.first.count) × (result.second.count ≡ self.second.count) }
+    {
+        Pair {
+            first: Buffer {
+                cells: first,
+                ..self.first
+            },
+            second: Buffer {
+                cells: second,
+                ..self.second
+            },
+        }
+    }
+
+    // Compares the two buffers with the list.
+    pub fn compare(&self, list: &mut Reader<'_>) -> Result<(), Damaged>
+        requires { PairFits self.now }
+        ensures remembers { Remembers list.old list.new }
+        ensures buf_value { list.new.buf.now ≡ list.old.buf.now }
+    {
+        self.first.compare(list)?;
+        self.second.compare(list)
     }
 }
 
-// The shell with other cells in its buffers.
-pub fn shell_left(
-    s: Shell,
-    vertex_numbers: [u32; MOST],
-    vertex_floats: [f64; MOST],
-    edge_numbers: [u32; MOST],
-    edge_floats: [f64; MOST],
-    uses: [u32; MOST],
-    lengths: [u32; MOST],
-) -> Shell
-    requires { ShellFits s }
-    ensures { ShellFits result }
-{
-    let vertices = table_left(s.vertices, vertex_numbers, vertex_floats);
-    let edges = table_left(s.edges, edge_numbers, edge_floats);
-    let wires = pair_left(s.wires, uses, lengths);
-    Shell {
-        vertices,
-        edges,
-        wires,
+impl Shell {
+    pub fn read(list: &mut Reader<'_>) -> Result<Shell, Damaged>
+        ensures fits { IfOk result ShellFits }
+        ensures is_same_value { list.new.is_same ≡ list.old.is_same }
+        ensures buf_value { list.new.buf.now ≡ list.old.buf.now }
+    {
+        let vertices = Table::read(list)?;
+        let edges = Table::read(list)?;
+        let wires = Pair::read(list)?;
+        Ok(Shell {
+            vertices,
+            edges,
+            wires,
+        })
     }
-}
 
-// ---- compared with the list
-
-pub fn compare_table(buf: &[u8], p: Place, t: Table) -> Place
-    requires { TableFits t }
-    ensures { Remembers p result }
-{
-    let past = stored_cells::compare_numbers(buf, p, t.numbers);
-    stored_cells::compare_floats(buf, past, t.floats)
-}
-
-pub fn compare_pair(buf: &[u8], p: Place, w: Pair) -> Place
-    requires { PairFits w }
-    ensures { Remembers p result }
-{
-    let past = stored_cells::compare_numbers(buf, p, w.first);
-    stored_cells::compare_numbers(buf, past, w.second)
-}
-
-pub fn compare_shell(buf: &[u8], p: Place, s: Shell) -> Place
-    requires { ShellFits s }
-    ensures { Remembers p result }
-{
-    let vertices = compare_table(buf, p, s.vertices);
-    let edges = compare_table(buf, vertices, s.edges);
-    compare_pair(buf, edges, s.wires)
+    // Compares the shell with the list.
+    pub fn compare(&self, list: &mut Reader<'_>) -> Result<(), Damaged>
+        requires { ShellFits self.now }
+        ensures remembers { Remembers list.old list.new }
+        ensures buf_value { list.new.buf.now ≡ list.old.buf.now }
+    {
+        self.vertices.compare(list)?;
+        self.edges.compare(list)?;
+        self.wires.compare(list)
+    }
 }

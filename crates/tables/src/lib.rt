@@ -1,25 +1,25 @@
 // Causes 1 to 5 of document 01's table, for tables of edges and of vertices: every row is checked, and the lowest number wins.
 #![tactic(auto)]
 
-ghost use Rattle.std.specs.Prelude.{◌≡◌, true, ℕ, ◌+◌, ◌*◌, ◌≤◌, eqb, length, get_or};
+ghost use Rattle.std.specs.Prelude.{◌≡◌, true, ℕ, ◌+◌, ◌*◌, ◌≤◌, ◌<◌, eqb, length, get_or};
 ghost use Rattle.std.specs.Float.{nan};
 ghost use Rattle.compress.specs.Refusals.{cause_of};
 ghost use Rattle.compress.specs.Rows.{curve_at};
+ghost use Rattle.compress.specs.Shell.{rows_fit};
 ghost use Rattle.compress.specs.declared.Vertex.TheVariants.{Pending};
-ghost use Rattle.checks.specs.Causes.{lowest_of, range_cause, parameter_cause, uv_cause, curve_cause, vertex_cause, point_cause, curve_kind_cause, edge_row_cause, vertex_row_cause, edges_cause, vertices_cause};
+ghost use Rattle.checks.specs.Causes.{table_cause, range_cause, parameter_cause, uv_cause, curve_cause, vertex_cause, point_cause, curve_kind_cause, edge_row_cause, vertex_row_cause, edges_cause, vertices_cause};
 
-use compress::{Checked, Refusal};
+use compress::{Checked, Edge, Refusal, Vertex};
+use rows::tables::{Row, Table};
 
 // ---- rows
 
-fn edge_row(vertices: usize, numbers: &[u32], floats: &[f64], i: usize) -> Checked
-    requires { (i * 4 + 4 ≤ length numbers.now) × (i * 6 + 6 ≤ length floats.now) }
-    ensures { cause_of result ≡ edge_row_cause vertices numbers.now floats.now i }
+fn edge_row(vertices: usize, edges: &Table<Edge>, i: usize) -> Checked
+    requires { (i * 4 + 4 ≤ length edges.now.numbers.now) × (i * 6 + 6 ≤ length edges.now.floats.now) }
+    ensures { cause_of result ≡ edge_row_cause vertices edges.now.numbers.now edges.now.floats.now i }
 {
-    let a = i * 4 + 2;
-    let k = checks::kind(numbers[a]);
-    let e = compress::edge_at(numbers, floats, i);
-    checks::lower(k, checks::edge(vertices, e))
+    let k = checks::kind(edges.numbers[i * 4 + 2]);
+    checks::lower(k, checks::edge(vertices, edges.at(i)))
 }
 
 fn curve_kind(kind: u32, curve_kind: u32) -> Checked
@@ -30,15 +30,14 @@ fn curve_kind(kind: u32, curve_kind: u32) -> Checked
     checks::cause_when(pending & unknown, Refusal::Malformed)
 }
 
-fn vertex_row(numbers: &[u32], floats: &[f64], i: usize) -> Checked
-    requires { (i * 3 + 3 ≤ length numbers.now) × (i * 7 + 7 ≤ length floats.now) }
-    ensures { cause_of result ≡ vertex_row_cause numbers.now floats.now i }
+fn vertex_row(vertices: &Table<Vertex>, i: usize) -> Checked
+    requires { (i * 3 + 3 ≤ length vertices.now.numbers.now) × (i * 7 + 7 ≤ length vertices.now.floats.now) }
+    ensures { cause_of result ≡ vertex_row_cause vertices.now.numbers.now vertices.now.floats.now i }
 {
     let a = i * 3;
-    let k = checks::kind(numbers[a]);
-    let c = curve_kind(numbers[a], numbers[a + 1]);
-    let v = compress::vertex_at(numbers, floats, i);
-    checks::lower(k, checks::lower(c, checks::vertex(v)))
+    let k = checks::kind(vertices.numbers[a]);
+    let c = curve_kind(vertices.numbers[a], vertices.numbers[a + 1]);
+    checks::lower(k, checks::lower(c, checks::vertex(vertices.at(i))))
 }
 
 // ---- the first pass: tests that only say yes or no. After a yes a table is not read again; after a no its rows tell the cause.
@@ -95,10 +94,11 @@ fn is_curve_sound(kind: u32, floats: &[f64], b: usize) -> bool
 }
 
 // The edge of row i, between vertices of which there are at least `bound`.
-fn is_edge_sound(bound: u32, numbers: &[u32], floats: &[f64], i: usize) -> bool
-    requires { (i * 4 + 4 ≤ length numbers.now) × (i * 6 + 6 ≤ length floats.now) }
-    ensures { result ≡ true → (v : ℕ) → bound ≤ v → edge_row_cause v numbers.now floats.now i ≡ 0 }
+fn is_edge_sound(bound: u32, edges: &Table<Edge>, i: usize) -> bool
+    requires { (i * 4 + 4 ≤ length edges.now.numbers.now) × (i * 6 + 6 ≤ length edges.now.floats.now) }
+    ensures { result ≡ true → (v : ℕ) → bound ≤ v → edge_row_cause v edges.now.numbers.now edges.now.floats.now i ≡ 0 }
 {
+    let numbers = edges.numbers;
     let a = i * 4;
     if numbers[a] >= bound {
         return false;
@@ -106,7 +106,7 @@ fn is_edge_sound(bound: u32, numbers: &[u32], floats: &[f64], i: usize) -> bool
     if numbers[a + 1] >= bound {
         return false;
     }
-    is_curve_sound(numbers[a + 2], floats, i * 6)
+    is_curve_sound(numbers[a + 2], edges.floats, i * 6)
 }
 
 // Whether the curve of a pending vertex, of this kind and from place b on, and the parameter behind it have no cause.
@@ -121,10 +121,12 @@ fn is_pending_sound(kind: u32, floats: &[f64], b: usize) -> bool
     is_parameter_sound(floats[b + 4], floats[b + 5], floats[b + 6])
 }
 
-fn is_vertex_sound(numbers: &[u32], floats: &[f64], i: usize) -> bool
-    requires { (i * 3 + 3 ≤ length numbers.now) × (i * 7 + 7 ≤ length floats.now) }
-    ensures { result ≡ true → vertex_row_cause numbers.now floats.now i ≡ 0 }
+fn is_vertex_sound(vertices: &Table<Vertex>, i: usize) -> bool
+    requires { (i * 3 + 3 ≤ length vertices.now.numbers.now) × (i * 7 + 7 ≤ length vertices.now.floats.now) }
+    ensures { result ≡ true → vertex_row_cause vertices.now.numbers.now vertices.now.floats.now i ≡ 0 }
 {
+    let numbers = vertices.numbers;
+    let floats = vertices.floats;
     let b = i * 7;
     let kind = numbers[i * 3];
     if kind == 0 {
@@ -136,71 +138,59 @@ fn is_vertex_sound(numbers: &[u32], floats: &[f64], i: usize) -> bool
     is_pending_sound(numbers[i * 3 + 1], floats, b)
 }
 
-fn are_edges_sound(vertices: usize, numbers: &[u32], floats: &[f64], count: usize) -> bool
-    requires { (count * 4 ≤ length numbers.now) × (count * 6 ≤ length floats.now) }
-    ensures { result ≡ true → lowest_of (edge_row_cause vertices numbers.now floats.now) count ≡ 0 }
-{
-    let bound = checks::narrow(vertices);
-    (0..count).all(|i| is_edge_sound(bound, numbers, floats, i))
-}
-
-fn are_vertices_sound(numbers: &[u32], floats: &[f64], count: usize) -> bool
-    requires { (count * 3 ≤ length numbers.now) × (count * 7 ≤ length floats.now) }
-    ensures { result ≡ true → lowest_of (vertex_row_cause numbers.now floats.now) count ≡ 0 }
-{
-    (0..count).all(|i| is_vertex_sound(numbers, floats, i))
-}
-
 // ---- tables
 
-fn edge_rows(vertices: usize, numbers: &[u32], floats: &[f64], count: usize) -> Checked
-    requires { (count * 4 ≤ length numbers.now) × (count * 6 ≤ length floats.now) }
-    ensures { cause_of result ≡ lowest_of (edge_row_cause vertices numbers.now floats.now) count }
+// Whether every row passes the test.
+fn are_sound<S: Fn(usize) -> bool>(count: usize, is_sound: S) -> bool
+    requires { (i : ℕ) → i < count → S.pre is_sound i }
+    ensures { result ≡ true → (i : ℕ) → i < count → S.post is_sound i true }
 {
-    checks::lowest_cause(count, |i| edge_row(vertices, numbers, floats, i))
+    for i in 0..count {
+        if !is_sound(i) {
+            return false;
+        }
+    }
+    true
+}
+
+// A table whose rows have the causes that `row` tells, none of them where `is_sound` says yes.
+pub fn table<R: Row, S: Fn(usize) -> bool, C: Fn(usize) -> Checked>(
+    rows: &Table<R>,
+    is_sound: S,
+    row: C,
+) -> Checked
+    requires is_sound_callable { rows_fit R.NUMBERS R.FLOATS rows.now.numbers.now rows.now.floats.now rows.now.count ≡ true → (i : ℕ) → i < rows.now.count → S.pre is_sound i }
+    requires row_callable { rows_fit R.NUMBERS R.FLOATS rows.now.numbers.now rows.now.floats.now rows.now.count ≡ true → (i : ℕ) → i < rows.now.count → C.pre row i }
+    ensures { (f : ℕ → ℕ) → ((i : ℕ) → i < rows.now.count → S.post is_sound i true → f i ≡ 0) → ((i : ℕ) (r : _) → i < rows.now.count → C.post row i r → cause_of r ≡ f i) → cause_of result ≡ table_cause R.NUMBERS R.FLOATS f rows.now.numbers.now rows.now.floats.now rows.now.count }
+{
+    if !rows.fits(rows.count) {
+        return Err(Refusal::Malformed);
+    }
+    if are_sound(rows.count, is_sound) {
+        return Ok(());
+    }
+    checks::lowest_cause(rows.count, row)
 }
 
 // A table of edges between `vertices` vertices.
-pub fn edges(vertices: usize, numbers: &[u32], floats: &[f64], count: usize) -> Checked
-    ensures { cause_of result ≡ edges_cause vertices numbers.now floats.now count }
+pub fn edges(vertices: usize, edges: &Table<Edge>) -> Checked
+    ensures { cause_of result ≡ edges_cause vertices edges.now.numbers.now edges.now.floats.now edges.now.count }
 {
-    if count > 4096 {
-        return Err(Refusal::Malformed);
-    }
-    if numbers.len() < count * 4 {
-        return Err(Refusal::Malformed);
-    }
-    if floats.len() < count * 6 {
-        return Err(Refusal::Malformed);
-    }
-    if are_edges_sound(vertices, numbers, floats, count) {
-        return Ok(());
-    }
-    edge_rows(vertices, numbers, floats, count)
-}
-
-fn vertex_rows(numbers: &[u32], floats: &[f64], count: usize) -> Checked
-    requires { (count * 3 ≤ length numbers.now) × (count * 7 ≤ length floats.now) }
-    ensures { cause_of result ≡ lowest_of (vertex_row_cause numbers.now floats.now) count }
-{
-    checks::lowest_cause(count, |i| vertex_row(numbers, floats, i))
+    let bound = checks::narrow(vertices);
+    table(
+        edges,
+        |i| is_edge_sound(bound, edges, i),
+        |i| edge_row(vertices, edges, i),
+    )
 }
 
 // A table of vertices.
-pub fn vertices(numbers: &[u32], floats: &[f64], count: usize) -> Checked
-    ensures { cause_of result ≡ vertices_cause numbers.now floats.now count }
+pub fn vertices(vertices: &Table<Vertex>) -> Checked
+    ensures { cause_of result ≡ vertices_cause vertices.now.numbers.now vertices.now.floats.now vertices.now.count }
 {
-    if count > 4096 {
-        return Err(Refusal::Malformed);
-    }
-    if numbers.len() < count * 3 {
-        return Err(Refusal::Malformed);
-    }
-    if floats.len() < count * 7 {
-        return Err(Refusal::Malformed);
-    }
-    if are_vertices_sound(numbers, floats, count) {
-        return Ok(());
-    }
-    vertex_rows(numbers, floats, count)
+    table(
+        vertices,
+        |i| is_vertex_sound(vertices, i),
+        |i| vertex_row(vertices, i),
+    )
 }

@@ -7,9 +7,8 @@ use mathlib.Core.Path.{◌≡◌, refl, sym, ap, subst, ◌∙◌}
 use mathlib.Core.Logic.{◌≢◌}
 use mathlib.Core.Bool.{Bool, true, false}
 use mathlib.Core.List.{List, [], ◌∷◌, ◌++◌, map}
-use lib.ListN.{length, take, drop, get_or, set, replicate, length-append, length-set, length-drop, get_or-eq_default}
+use lib.ListN.{length, take, drop, get_or, set, length-append, length-set, length-drop, get_or-eq_default}
 use lib.Seq.{length-take-le, take-suc-set, take-set-le, get_or-set_other}
-use Rattle.walk.proofs.Small.{zeros, front_small, back_small}
 use Rattle.walk.specs.Walk.{refuse, along, side, join, choose, walk}
 use Rattle.lists.specs.Members.{count, del, sits, at}
 use Rattle.walk.proofs.Buckets.{all_empty}
@@ -17,12 +16,11 @@ use Rattle.std.proofs.lemmas.Bool.{cases_lt}
 use Rattle.std.proofs.Common.{⊎_elim, Option, Some, None, Ok, Err, IsSome, unwrap_or}
 use Rattle.compress.specs.declared.Refusal.{Refusal}
 use Rattle.compress.specs.declared.Refusal.TheVariants.{DeadEnd, TooManyUses}
-use Rattle.lists.specs.Lists.{entry_of, Lists, Lowest, heads_after, nexts_after}
-use Rattle.lists.specs.Ends.{front_of, back_of, marked_of, Sound}
+use Rattle.lists.specs.Lists.{entry_of, Lists, Lowest}
 use Rattle.step.specs.Arrival.{exactly_one, Went, absent, empty, many, one, second, first}
 use Rattle.compress.specs.Wires.{total}
 use Rattle.walk.specs.Answered.{Traced}
-use Rattle.lists.proofs.Chains.{lists_all, chain_none, node, entry_some, lists_last, lists_first, two, one_only, three}
+use Rattle.lists.proofs.Chains.{chain_none, node, entry_some, lists_last, lists_first, two, one_only, three}
 use Rattle.walk.proofs.Steps.{going, after, after_walk, after_nil, going_refused, going_along, going_closed, after_fresh, shorter, wire_more, wire_first, wire_joined, join_snoc, map_snoc}
 
 side_second : (a b : Bool) → exactly_one a b ≡ false → side a b ≡ 1
@@ -141,10 +139,10 @@ module _ {front back : ℕ → ℕ} {marked : ℕ → Bool} {us : List ℕ} wher
         nil (x ∷ l) h = absurd (omega arith)
 
     -- a wire begins, at the smallest vertex that has uses left
-    pub between_begin : {hd' made' : List ℕ} {r u : ℕ} → taken < length us → length us ≤ 1024 → Lowest hd r
-        → u ≡ get_or us (get_or hd r 0 - 2) 0 → hd' ≡ set hd r (entry_of (get_or nx (get_or hd r 0 - 2) 0)) → made' ≡ set made taken u
-        → Along front back marked us hd' nx made' sizes r taken (taken + 1) n u
-    between_begin {hd'} {made'} {r} {u} lt few low eu eh em =
+    pub between_begin : {hd' : List ℕ} {r u : ℕ} → taken < length us → length us ≤ 1024 → Lowest hd r
+        → u ≡ get_or us (get_or hd r 0 - 2) 0 → hd' ≡ set hd r (entry_of (get_or nx (get_or hd r 0 - 2) 0))
+        → Along front back marked us hd' nx (set made taken u) sizes r taken (taken + 1) n u
+    between_begin {hd'} {r} {u} lt few low eu eh =
         let small : r < 4096 = between_some lt low in
         let p = get_or hd r 0 - 2 in
         let hp : get_or hd r 0 ≡ p + 2 = omega (arith, low.has small) in
@@ -162,28 +160,27 @@ module _ {front back : ℕ → ℕ} {marked : ℕ → Bool} {us : List ℕ} wher
           lists = subst (λ (h : List ℕ). Lists front us (length us) h nx rest') (sym eh) (lists_last front us (length us) hd nx B.rest B.lists r p hp small);
           low = λ w h. omega (arith, ap (λ (l : List ℕ). get_or l w 0) eh, get_or-set_other hd r w (entry_of (get_or nx p 0)) 0 (λ g. omega arith), low.below w h);
           start_le = low.within;
-          long_made = ap length em ∙ length-set made taken u ∙ B.long_made;
+          long_made = length-set made taken u ∙ B.long_made;
           long_sizes = B.long_sizes;
           count_is = omega (arith, B.count_is);
           from_lt = omega arith;
           few = B.few;
           n_is = B.n_is;
-          joined = B.joined ∙ sym (ap (take taken) em ∙ take-set-le taken made taken u (omega arith));
+          joined = B.joined ∙ sym (take-set-le taken made taken u (omega arith));
           sized = B.sized;
           place = p;
           place_lt = N.below;
           last_at = eu;
-          to = ap (λ (l : List ℕ). going front back marked (suc (length rest')) r u rest' (drop taken (take (taken + 1) l)) B.ws) em
-              ∙ ap (λ (w : List ℕ). going front back marked (suc (length rest')) r u rest' w B.ws) (wire_first made taken taken u (omega arith) (omega (arith, B.long_made)))
+          to = ap (λ (w : List ℕ). going front back marked (suc (length rest')) r u rest' w B.ws) (wire_first made taken taken u (omega arith) (omega (arith, B.long_made)))
               ∙ ap (λ (j : ℕ). going front back marked j r u rest' (u ∷ []) B.ws) (sym sh) ∙ sym f ∙ B.to;
         }
 
   module _ {hd nx made sizes : List ℕ} {start from taken n last : ℕ} (A : Along front back marked us hd nx made sizes start from taken n last) where
     -- the wire goes on with the use at index k of the list
-    along_go : (hd' nx' made' : List ℕ) (k u p : ℕ) (b : List ℕ) → length us ≤ 1024 → back last ≢ start → at front (back last) A.rest ≡ b → choose marked (marked last) b ≡ along k
+    along_go : (hd' nx' : List ℕ) (k u p : ℕ) (b : List ℕ) → length us ≤ 1024 → back last ≢ start → at front (back last) A.rest ≡ b → choose marked (marked last) b ≡ along k
         → k < length b → u ≡ get_or b k 0 → p < length us → u ≡ get_or us p 0 → Lists front us (length us) hd' nx' (del (sits front (back last)) k A.rest)
-        → ((w : ℕ) → w < start → get_or hd' w 0 ≤ 1) → made' ≡ set made taken u → Along front back marked us hd' nx' made' sizes start from (taken + 1) n u
-    along_go hd' nx' made' k u p b fits d eb ec kb eu hp ep L low em =
+        → ((w : ℕ) → w < start → get_or hd' w 0 ≤ 1) → Along front back marked us hd' nx' (set made taken u) sizes start from (taken + 1) n u
+    along_go hd' nx' k u p b fits d eb ec kb eu hp ep L low =
         let rest' = del (sits front (back last)) k A.rest in
         let sh : length A.rest ≡ suc (length rest') = shorter (sits front (back last)) A.rest k (omega (arith, ap length eb)) in
         let g = going_along front back marked start last A.rest (drop from (take taken made)) A.ws (length A.rest) k b d eb ec in
@@ -193,19 +190,18 @@ module _ {front back : ℕ → ℕ} {marked : ℕ → Bool} {us : List ℕ} wher
           lists = L;
           low = low;
           start_le = A.start_le;
-          long_made = ap length em ∙ length-set made taken u ∙ A.long_made;
+          long_made = length-set made taken u ∙ A.long_made;
           long_sizes = A.long_sizes;
           count_is = omega (arith, A.count_is);
           from_lt = omega (arith, A.from_lt);
           few = A.few;
           n_is = A.n_is;
-          joined = A.joined ∙ sym (ap (take from) em ∙ take-set-le from made taken u (omega (arith, A.from_lt)));
+          joined = A.joined ∙ sym (take-set-le from made taken u (omega (arith, A.from_lt)));
           sized = A.sized;
           place = p;
           place_lt = hp;
           last_at = ep;
-          to = ap (λ (l : List ℕ). going front back marked (suc (length rest')) start u rest' (drop from (take (taken + 1) l)) A.ws) em
-              ∙ ap (λ (w : List ℕ). going front back marked (suc (length rest')) start u rest' w A.ws) (wire_more made from taken u (omega (arith, A.from_lt)) (omega (arith, A.long_made, A.count_is)))
+          to = ap (λ (w : List ℕ). going front back marked (suc (length rest')) start u rest' w A.ws) (wire_more made from taken u (omega (arith, A.from_lt)) (omega (arith, A.long_made, A.count_is)))
               ∙ ap (λ (j : ℕ). going front back marked j start u rest' (drop from (take taken made) ++ (u ∷ [])) A.ws) (sym sh)
               ∙ ap (λ (x : ℕ). going front back marked (length A.rest) start x rest' (drop from (take taken made) ++ (x ∷ [])) A.ws) eu
               ∙ sym g ∙ A.to;
@@ -216,73 +212,62 @@ module _ {front back : ℕ → ℕ} {marked : ℕ → Bool} {us : List ℕ} wher
     low_last v p x hp w h = omega (arith, get_or-set_other hd v w x 0 (λ g. omega (arith, A.low w h, ap (λ (j : ℕ). get_or hd j 0) g)), A.low w h)
 
     -- the last of the list
-    along_last : (hd' nx' made' : List ℕ) (k u p : ℕ) (b : List ℕ) → length us ≤ 1024 → back last < 4096 → back last ≢ start → get_or hd (back last) 0 ≡ p + 2 → at front (back last) A.rest ≡ b
+    along_last : (hd' nx' : List ℕ) (k u p : ℕ) (b : List ℕ) → length us ≤ 1024 → back last < 4096 → back last ≢ start → get_or hd (back last) 0 ≡ p + 2 → at front (back last) A.rest ≡ b
         → choose marked (marked last) b ≡ along k → k + 1 ≡ length b → get_or us p 0 ≡ get_or b k 0 → u ≡ get_or us p 0
-        → hd' ≡ set hd (back last) (entry_of (get_or nx p 0)) → nx' ≡ nx → made' ≡ set made taken u → Along front back marked us hd' nx' made' sizes start from (taken + 1) n u
-    along_last hd' nx' made' k u p b fits small d hp eb ec kb ep eu eh en em =
+        → hd' ≡ set hd (back last) (entry_of (get_or nx p 0)) → nx' ≡ nx → Along front back marked us hd' nx' (set made taken u) sizes start from (taken + 1) n u
+    along_last hd' nx' k u p b fits small d hp eb ec kb ep eu eh en =
         let v = back last in
         let N = node front us (length us) hd nx A.rest A.lists v p hp in
         let kk : length (at front v A.rest) - 1 ≡ k = omega (arith, ap length eb) in
-        along_go hd' nx' made' k u p b fits d eb ec (omega arith) (eu ∙ ep) N.below eu
+        along_go hd' nx' k u p b fits d eb ec (omega arith) (eu ∙ ep) N.below eu
         (rw (eh, en) (subst (λ (j : ℕ). Lists front us (length us) (set hd v (entry_of (get_or nx p 0))) nx (del (sits front v) j A.rest)) kk (lists_last front us (length us) hd nx A.rest A.lists v p hp small)))
-        (λ w h. rw eh (low_last v p (entry_of (get_or nx p 0)) hp w h)) em
+        (λ w h. rw eh (low_last v p (entry_of (get_or nx p 0)) hp w h))
 
     -- a step that takes a use
-    took_use : {hd' nx' made' : List ℕ} {u : ℕ} → length us ≤ 1024 → back last < 4096 → back last ≢ start → Went marked us hd nx (back last) last (Ok u) hd' nx'
-        → made' ≡ set made taken u → Along front back marked us hd' nx' made' sizes start from (taken + 1) n u
-    took_use fits small d (absent h e eh en) em = cc
-    took_use fits small d (empty h e eh en) em = cc
-    took_use fits small d (many p a b hp ha hb e eh en) em = cc
-    took_use {hd'} {nx'} {made'} {u} fits small d (one p hp hz e eh en) em =
+    pub along_on : {hd' nx' : List ℕ} {u : ℕ} → length us ≤ 1024 → back last < 4096 → back last ≢ start → Went marked us hd nx (back last) last (Ok u) hd' nx'
+        → Along front back marked us hd' nx' (set made taken u) sizes start from (taken + 1) n u
+    along_on fits small d (absent h e eh en) = cc
+    along_on fits small d (empty h e eh en) = cc
+    along_on fits small d (many p a b hp ha hb e eh en) = cc
+    along_on {hd'} {nx'} {u} fits small d (one p hp hz e eh en) =
         let x : hd' ≡ set hd (back last) (entry_of (get_or nx p 0)) = eh ∙ sym (ap (λ (j : ℕ). set hd (back last) (entry_of j)) hz) in
-        along_last hd' nx' made' 0 u p (get_or us p 0 ∷ []) fits small d hp (one_only front us (length us) hd nx A.rest A.lists (back last) p hp hz) refl refl refl (cc) x en em
-    took_use {hd'} {nx'} {made'} {u} fits small d (second p a hp ha hz hm e eh en) em =
+        along_last hd' nx' 0 u p (get_or us p 0 ∷ []) fits small d hp (one_only front us (length us) hd nx A.rest A.lists (back last) p hp hz) refl refl refl (cc) x en
+    along_on {hd'} {nx'} {u} fits small d (second p a hp ha hz hm e eh en) =
         let x : hd' ≡ set hd (back last) (entry_of (get_or nx p 0)) = eh ∙ ap (λ (j : ℕ). set hd (back last) j) (sym (entry_some (get_or nx p 0) a ha)) in
-        along_last hd' nx' made' 1 u p (get_or us a 0 ∷ get_or us p 0 ∷ []) fits small d hp (two front us (length us) hd nx A.rest A.lists (back last) p hp a ha hz)
-        (ap along (side_second (marked last) (marked (get_or us a 0)) hm)) refl refl (cc) x en em
-    took_use {hd'} {nx'} {made'} {u} fits small d (first p a hp ha hz hm e eh en) em =
+        along_last hd' nx' 1 u p (get_or us a 0 ∷ get_or us p 0 ∷ []) fits small d hp (two front us (length us) hd nx A.rest A.lists (back last) p hp a ha hz)
+        (ap along (side_second (marked last) (marked (get_or us a 0)) hm)) refl refl (cc) x en
+    along_on {hd'} {nx'} {u} fits small d (first p a hp ha hz hm e eh en) =
         let v = back last in
         let L = A.lists in
         let eu : u ≡ get_or us a 0 = cc in
-        along_go hd' nx' made' 0 u a (get_or us a 0 ∷ get_or us p 0 ∷ []) fits d (two front us (length us) hd nx A.rest L v p hp a ha hz)
-        (ap along (side_first (marked last) (marked (get_or us a 0)) hm)) (omega arith) eu (below2 p a hp ha) eu
+        along_go hd' nx' 0 u a (get_or us a 0 ∷ get_or us p 0 ∷ []) fits d (two front us (length us) hd nx A.rest L v p hp a ha hz)
+        (ap along (side_first (marked last) (marked (get_or us a 0)) hm)) (omega arith) eu (omega (arith, L.tables.nexts p)) eu
         (rw (eh, en) (lists_first front us (length us) hd nx A.rest L v p hp a ha hz fits))
-        (λ w h. rw eh (A.low w h)) em
-      where
-        below2 : (p a : ℕ) → get_or hd (back last) 0 ≡ p + 2 → get_or nx p 0 ≡ a + 1 → a < length us
-        below2 p a hp ha = omega (arith, A.lists.tables.nexts p)
-
-    pub along_on : {hd' nx' made' : List ℕ} {u v : ℕ} → length us ≤ 1024 → back last < 4096 → v ≡ back last → v ≢ start → Went marked us hd nx v last (Ok u) hd' nx'
-        → made' ≡ set made taken u → Along front back marked us hd' nx' made' sizes start from (taken + 1) n u
-    along_on fits small ev d w em = took_use fits small (λ g. d (ev ∙ g)) (rw ev at w) em
+        (λ w h. rw eh (A.low w h))
 
     -- a step at which the walk stops
-    stopped : {hd' nx' : List ℕ} {r : Refusal} (made' sizes' : List ℕ) → back last ≢ start → Went marked us hd nx (back last) last (Err r) hd' nx'
+    pub along_stop : {hd' nx' : List ℕ} {r : Refusal} (made' sizes' : List ℕ) → back last ≢ start → Went marked us hd nx (back last) last (Err r) hd' nx'
         → Traced (walk front back marked us) (length us) made' sizes' (Err r)
     unfolding Traced
-    stopped {hd'} {nx'} {r} made' sizes' d (absent h e eh en) =
+    along_stop {hd'} {nx'} {r} made' sizes' d (absent h e eh en) =
         let q : r ≡ DeadEnd = cc in
         rw q
         (sym A.to ∙ going_refused front back marked start last A.rest (drop from (take taken made)) A.ws (length A.rest) 11 [] d
         (chain_none front us nx (length us) (back last) (get_or hd (back last) 0 - 1) (at front (back last) A.rest) (omega arith) (A.lists.chains (back last))) refl)
-    stopped made' sizes' d (empty h e eh en) = absurd (A.lists.dropped (back last) h)
-    stopped {hd'} {nx'} {r} made' sizes' d (many p a b hp ha hb e eh en) =
+    along_stop made' sizes' d (empty h e eh en) = absurd (A.lists.dropped (back last) h)
+    along_stop {hd'} {nx'} {r} made' sizes' d (many p a b hp ha hb e eh en) =
         let q : r ≡ TooManyUses = cc in
         rw q
         (sym A.to ∙ going_refused front back marked start last A.rest (drop from (take taken made)) A.ws (length A.rest) 12 (at front (back last) A.rest) d refl
         (many_refused marked (marked last) (at front (back last) A.rest) (three front us (length us) hd nx A.rest A.lists (back last) p hp a b ha hb)))
-    stopped made' sizes' d (one p hp hz e eh en) = cc
-    stopped made' sizes' d (second p a hp ha hz hm e eh en) = cc
-    stopped made' sizes' d (first p a hp ha hz hm e eh en) = cc
-
-    pub along_stop : {hd' nx' : List ℕ} {r : Refusal} {v : ℕ} (made' sizes' : List ℕ) → v ≡ back last → v ≢ start → Went marked us hd nx v last (Err r) hd' nx'
-        → Traced (walk front back marked us) (length us) made' sizes' (Err r)
-    along_stop made' sizes' ev d w = stopped made' sizes' (λ g. d (ev ∙ g)) (rw ev at w)
+    along_stop made' sizes' d (one p hp hz e eh en) = cc
+    along_stop made' sizes' d (second p a hp ha hz hm e eh en) = cc
+    along_stop made' sizes' d (first p a hp ha hz hm e eh en) = cc
 
     -- the wire is closed
-    pub along_close : {sizes' : List ℕ} {v : ℕ} → length us ≤ 1024 → v ≡ back last → v ≡ start → sizes' ≡ set sizes n (taken - from)
-        → Between front back marked us hd nx made sizes' start taken (n + 1)
-    along_close fits ev vs es =
+    pub along_close : length us ≤ 1024 → back last ≡ start
+        → Between front back marked us hd nx made (set sizes n (taken - from)) start taken (n + 1)
+    along_close fits e =
         let wire = drop from (take taken made) in
         let lw : length wire ≡ taken - from = length-drop from (take taken made) ∙ ap (λ (j : ℕ). j - from) (length-take-le taken made (omega (arith, A.count_is, A.long_made))) in
         let n_lt : n < length sizes = omega (arith, A.few, A.from_lt, A.count_is, A.long_sizes) in
@@ -293,64 +278,17 @@ module _ {front back : ℕ → ℕ} {marked : ℕ → Bool} {us : List ℕ} wher
           low = A.low;
           start_le = A.start_le;
           long_made = A.long_made;
-          long_sizes = ap length es ∙ length-set sizes n (taken - from) ∙ A.long_sizes;
+          long_sizes = length-set sizes n (taken - from) ∙ A.long_sizes;
           count_is = A.count_is;
           few = omega (arith, A.few, A.from_lt);
           n_is = length-append A.ws (wire ∷ []) ∙ omega (arith, A.n_is);
           joined = join_snoc A.ws wire ∙ ap (λ (l : List ℕ). l ++ wire) A.joined ∙ wire_joined made from taken (omega (arith, A.from_lt));
           sized = map_snoc A.ws wire ∙ ap (λ (j : ℕ). map length A.ws ++ (j ∷ [])) lw ∙ ap (λ (l : List ℕ). l ++ ((taken - from) ∷ [])) A.sized
-              ∙ sym (ap (λ (l : List ℕ). take (n + 1) l) es ∙ ap (λ (j : ℕ). take j (set sizes n (taken - from))) (add-one n) ∙ take-suc-set sizes n (taken - from) n_lt);
-          to = sym (going_closed front back marked start last A.rest wire A.ws (length A.rest) (sym ev ∙ vs)) ∙ A.to;
+              ∙ sym (ap (λ (j : ℕ). take j (set sizes n (taken - from))) (add-one n) ∙ take-suc-set sizes n (taken - from) n_lt);
+          to = sym (going_closed front back marked start last A.rest wire A.ws (length A.rest) e) ∙ A.to;
         }
 
--- The same over the tables that the code has, so that what the caller has checked says which they are.
-module _ {en ds ms us : List ℕ} {edges : ℕ} (S : Sound en ds edges ms us) where
-  abbrev pub Made : (hd nx made sizes : List ℕ) (start taken n : ℕ) → Type 0
-  Made = Between (front_of en ds edges) (back_of en ds edges) (marked_of ms) us
-
-  abbrev pub Going : (hd nx made sizes : List ℕ) (start from taken n last : ℕ) → Type 0
-  Going = Along (front_of en ds edges) (back_of en ds edges) (marked_of ms) us
-
-  -- the lists of all uses are made: no wire is made yet
-  pub walk_begins : {hd nx made sizes : List ℕ} → length made ≡ 1024 → length sizes ≡ 1024
-      → hd ≡ heads_after (front_of en ds edges) us (replicate 4096 0) (length us)
-      → nx ≡ nexts_after (front_of en ds edges) us (replicate 4096 0) (replicate 1024 0) (length us) → Made hd nx made sizes 0 0 0
-  walk_begins lm ls eh en = between_start
-      (rw (eh, en) (lists_all _ us _ _ refl refl (zeros 4096) (zeros 1024) S.few (front_small S))) lm ls
-
-  -- a vertex with uses is found
-  pub wire_found : {hd nx made sizes : List ℕ} {start taken n : ℕ} (r : Option ℕ) → Made hd nx made sizes start taken n → taken ≢ length us
-      → Lowest hd (unwrap_or r 4096) → IsSome r
-  wire_found r B ne low = some r (between_some B (omega (arith, ne, B.count_is)) low)
-    where
-      some : (r : Option ℕ) → unwrap_or r 4096 < 4096 → IsSome r
-      some None h = absurd (omega arith)
-      some (Some v) h = refl
-
-  -- a wire begins with the use that is popped
-  pub wire_begins : {hd nx made sizes hd' : List ℕ} {start taken n r u : ℕ} → Made hd nx made sizes start taken n → taken ≢ length us
-      → Lowest hd r
-      → u ≡ get_or us (get_or hd r 0 - 2) 0 → hd' ≡ set hd r (entry_of (get_or nx (get_or hd r 0 - 2) 0))
-      → Going hd' nx (set made taken u) sizes r taken (taken + 1) n u
-  wire_begins B ne low eu eh = between_begin B (omega (arith, ne, B.count_is)) S.few low eu eh refl
-
-  module _ {hd nx made sizes : List ℕ} {start from taken n last v : ℕ} (A : Going hd nx made sizes start from taken n last)
-      (ev : v ≡ back_of en ds edges last) where
-    -- it goes on with the step's use
-    pub wire_goes : {hd' nx' : List ℕ} {u : ℕ} → v ≢ start → Went (marked_of ms) us hd nx v last (Ok u) hd' nx'
-        → Going hd' nx' (set made taken u) sizes start from (taken + 1) n u
-    wire_goes d w = along_on A S.few (back_small S A.place last A.place_lt A.last_at) ev d w refl
-
-    -- it is closed
-    pub wire_closes : v ≡ start → Made hd nx made (set sizes n (taken - from)) start taken (n + 1)
-    wire_closes vs = along_close A S.few ev vs refl
-
-    -- a step stops the walk
-    pub walk_stops : {hd' nx' : List ℕ} {r : Refusal} → v ≢ start → Went (marked_of ms) us hd nx v last (Err r) hd' nx'
-        → Traced (walk (front_of en ds edges) (back_of en ds edges) (marked_of ms) us) (length us) made sizes (Err r)
-    walk_stops d w = along_stop A _ _ ev d w
-
-  -- all uses are taken
-  pub walk_ends : {hd nx made sizes : List ℕ} {start taken n : ℕ} → Made hd nx made sizes start taken n → taken ≡ length us
-      → Traced (walk (front_of en ds edges) (back_of en ds edges) (marked_of ms) us) (length us) made sizes (Ok (record { wires = n; uses = taken }))
-  walk_ends B all = between_done B S.few all
+-- a vertex below the last is one that was found
+pub found : (r : Option ℕ) → unwrap_or r 4096 < 4096 → IsSome r
+found None h = absurd (omega arith)
+found (Some v) h = refl

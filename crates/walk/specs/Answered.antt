@@ -5,8 +5,18 @@ use Rattle.compress.specs.Refusals.{refusal_number}
 use Rattle.compress.specs.Said.{Said, result, said_of}
 use Rattle.compress.specs.Said as said
 use Rattle.compress.specs.Wires.{total, uses_of, lengths_of, over}
-use Rattle.walk.specs.Walk.{Answer, wires, refused, join}
+use Rattle.lists.specs.declared.AllEdges.{AllEdges}
+use Rattle.lists.specs.Ends.{front_of, back_of, marked_of}
+use Rattle.walk.specs.Walk.{Answer, wires, refused, join, walk}
 use Rattle.walk.specs.declared.Walked.{Walked}
+
+-- The walk of the uses us, off the lent tables.
+abbrev pub walk_over : List ℕ → List ℕ → ℕ → List ℕ → List ℕ → Answer
+walk_over en ds edges ms us = walk (front_of en ds edges) (back_of en ds edges) (marked_of ms) us
+
+-- the same, said of the struct
+abbrev pub walk_in : AllEdges → List ℕ → List ℕ → Answer
+walk_in e ms us = walk_over e.lent.numbers.now e.divisor.now e.lent.count ms us
 
 -- What the walk leaves where it succeeds: the uses of its wires, wire after wire, in the front of made, and the wires' lengths in the front of sizes.
 pub record Made (a : Answer) (made sizes : List ℕ) (n t : ℕ) : Type 0 where

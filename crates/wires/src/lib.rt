@@ -5,6 +5,8 @@ ghost use Rattle.std.specs.Prelude.{◌≡◌, ◌++◌, ◌≤◌, length, take
 ghost use Rattle.compress.specs.Wires.{total};
 ghost use Rattle.wires.specs.Turn.{turned};
 
+use rows::lent::Wires;
+
 // `rotate_left`: the wire, turned so that its place `by` is 0, is written over the front of `out`.
 pub fn rotate_left(wire: &[u32], by: usize, out: &mut [u32])
     requires { (by ≤ length wire.now) × (length wire.now ≤ length out.old) }
@@ -15,15 +17,17 @@ pub fn rotate_left(wire: &[u32], by: usize, out: &mut [u32])
     rows::copy(wire, by, &mut out[rest..]);
 }
 
-// Copies the first n wires of `made`, of the lengths `sizes`, to `out`: "the unwritten rest of the lent use buffer is lent on for each next wire".
-pub fn copy_wires(made: &[u32], sizes: &[u32], n: usize, out: &mut [u32])
-    requires { (n ≤ length sizes.now) × (total (take n sizes.now) ≤ length made.now) × (total (take n sizes.now) ≤ length out.old) }
-    ensures { out.new ≡ take (total (take n sizes.now)) made.now ++ drop (total (take n sizes.now)) out.old }
+// The wires that were made are copied to `out`: "the unwritten rest of the lent use buffer is lent on for each next wire".
+pub fn copy_wires(made: &Wires, out: &mut [u32])
+    requires { let all = total (take made.now.count made.now.lengths.now) in
+        (made.now.count ≤ length made.now.lengths.now) × (all ≤ length made.now.uses.now) × (all ≤ length out.old) }
+    ensures { let all = total (take made.now.count made.now.lengths.now) in
+        out.new ≡ take all made.now.uses.now ++ drop all out.old }
 {
     let mut at: usize = 0;
-    for k in 0..n {
-        let size = sizes[k] as usize;
-        rows::copy(&made[at..], size, &mut out[at..]);
+    for k in 0..made.count {
+        let size = made.lengths[k] as usize;
+        rows::copy(&made.uses[at..], size, &mut out[at..]);
         at += size;
     }
 }

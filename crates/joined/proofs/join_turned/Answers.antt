@@ -1,79 +1,110 @@
-use mathlib.Core.Path.{ap, refl}
+use mathlib.Core.Path.{ap, refl, ◌∙◌}
 use native.Mathlib.Omega.{arith}
-use lib.ListN.{take}
 use lib.Seq.{length-take-le}
-use Rattle.compress.specs.Rows.{edge_at}
 use Rattle.compress.proofs.Refused.{exit_is}
-use Rattle.compress.specs.Wires.{wires_of}
-use Rattle.wires.specs.Turn.{turned}
-use Rattle.joined.specs.Outcome.{join_leaves}
-use Rattle.joined.proofs.Replacing.{wire_count, wire_within}
-use Rattle.joined.proofs.Joining.{joined_no_place, joined_no_wire, laying_asks, call_none, call_stored}
+use Rattle.compress.specs.Said.{result, none}
+use Rattle.laying.proofs.Places.{found_is}
+use Rattle.joined.specs.Outcome.{left_by}
+use Rattle.joined.proofs.Joining.{joined_no_place, joined_no_wire, wire_found, part_within, laying_asks, call_leaves}
 use Rattle.joined.proofs.join_turned.Goals as goal
 
-pub returns-then-j-second : goal.returns-then-j-second
-returns-then-j-second c =
-    ap (join_leaves c.args.uses.now c.args.lengths.now) (joined_no_place (edge_at c.args.edge_numbers.now c.args.edge_floats.now) c.args.v0 c.args.v1 (turned c.args.i c.args.first.now) c.args.second.now (wires_of c.args.uses.now (take c.args.wires c.args.lengths.now)) _ c.find_index-j.ensures c.if-j-second.true)
+pub returns-in_default-clause-outcome : goal.returns-in_default-clause-outcome
+returns-in_default-clause-outcome c = ap (left_by c.args.wires.now) (joined_no_place _ _ _ _ _ _ c.in_default.ensures)
 
-pub returns-then-w-wires : goal.returns-then-w-wires
-returns-then-w-wires c =
-    let n = wire_count c.args.uses.now c.args.lengths.now c.args.wires c.requires.0.lies.lengths in
-    ap (join_leaves c.args.uses.now c.args.lengths.now) (joined_no_wire (edge_at c.args.edge_numbers.now c.args.edge_floats.now) c.args.v0 c.args.v1 (turned c.args.i c.args.first.now) c.args.second.now (wires_of c.args.uses.now (take c.args.wires c.args.lengths.now)) _ c.find_index-j.ensures c.if-j-second.false c.find_wire-w.result c.find_wire-w.ensures (omega (arith, n, c.if-w-wires.true)))
+pub returns-in_default-find_wire-clause-outcome : goal.returns-in_default-find_wire-clause-outcome
+returns-in_default-find_wire-clause-outcome c =
+    let v = c.view-lent.ensures in
+    let q = rw (v.uses_value, v.lengths_value, v.count_value) at c.in_default-find_wire.ensures in
+    ap (left_by c.args.wires.now) (joined_no_wire _ _ _ _ _ _ _ c.in-Some.ensures q)
+
+pub slice_bounds-total_uses-end : goal.slice_bounds-total_uses-end
+slice_bounds-total_uses-end c =
+    let v = c.view-lent.ensures in
+    let J = c.requires.joinable in
+    let w = wire_found J c.args.v0 (rw (v.uses_value, v.lengths_value, v.count_value) at c.in-Some-find_wire.ensures) in
+    rw v.lengths_value (omega (arith, length-take-le c.in-Some-find_wire.w c.args.wires.now.lengths.now (omega (arith, w, J.lies.lengths))))
+
+pub total_uses-from-requires : goal.total_uses-from-requires
+total_uses-from-requires c =
+    let v = c.view-lent.ensures in
+    let J = c.requires.joinable in
+    let w = wire_found J c.args.v0 (rw (v.uses_value, v.lengths_value, v.count_value) at c.in-Some-find_wire.ensures) in
+    rw v.lengths_value (omega (arith, w, J.lies.wires, length-take-le c.in-Some-find_wire.w c.args.wires.now.lengths.now (omega (arith, w, J.lies.lengths))))
+
+pub offset_bounds-lent-w : goal.offset_bounds-lent-w
+offset_bounds-lent-w c =
+    let v = c.view-lent.ensures in
+    let J = c.requires.joinable in
+    let w = wire_found J c.args.v0 (rw (v.uses_value, v.lengths_value, v.count_value) at c.in-Some-find_wire.ensures) in
+    omega (arith, w, J.lies.wires)
+
+pub bounds-lent-w : goal.bounds-lent-w
+bounds-lent-w c =
+    let v = c.view-lent.ensures in
+    let J = c.requires.joinable in
+    let w = wire_found J c.args.v0 (rw (v.uses_value, v.lengths_value, v.count_value) at c.in-Some-find_wire.ensures) in
+    rw v.lengths_value (omega (arith, w, J.lies.lengths))
 
 pub overflow_add-to : goal.overflow_add-to
 overflow_add-to c =
-    omega (arith, wire_within c.args.uses.now c.args.lengths.now c.args.wires c.find_wire-w.result c.requires.0.lies c.if-w-wires.false _ c.total_uses-from.ensures, c.requires.0.lies.few)
+    let v = c.view-lent.ensures in
+    let J = c.requires.joinable in
+    let W = rw (v.uses_value, v.lengths_value, v.count_value) at c.in-Some-find_wire.ensures in
+    let from = rw v.lengths_value at c.total_uses-from.ensures in
+    rw v.lengths_value (omega (arith, part_within J c.args.v0 W from, J.lies.few))
 
-pub offset_bounds-uses-from : goal.offset_bounds-uses-from
-offset_bounds-uses-from c =
-    omega (arith, wire_within c.args.uses.now c.args.lengths.now c.args.wires c.find_wire-w.result c.requires.0.lies c.if-w-wires.false _ c.total_uses-from.ensures, c.requires.0.lies.few)
+pub offset_bounds-lent-from : goal.offset_bounds-lent-from
+offset_bounds-lent-from c =
+    let v = c.view-lent.ensures in
+    let J = c.requires.joinable in
+    let W = rw (v.uses_value, v.lengths_value, v.count_value) at c.in-Some-find_wire.ensures in
+    let from = rw v.lengths_value at c.total_uses-from.ensures in
+    omega (arith, part_within J c.args.v0 W from, J.lies.few)
 
-pub slice_bounds-lay_joined-end : goal.slice_bounds-lay_joined-end
-slice_bounds-lay_joined-end c =
-    omega (arith, wire_within c.args.uses.now c.args.lengths.now c.args.wires c.find_wire-w.result c.requires.0.lies c.if-w-wires.false _ c.total_uses-from.ensures, c.requires.0.lies.uses)
+pub slice_bounds-wire-end : goal.slice_bounds-wire-end
+slice_bounds-wire-end c =
+    let v = c.view-lent.ensures in
+    let J = c.requires.joinable in
+    let W = rw (v.uses_value, v.lengths_value, v.count_value) at c.in-Some-find_wire.ensures in
+    let from = rw v.lengths_value at c.total_uses-from.ensures in
+    let p = part_within J c.args.v0 W from in
+    rw (v.uses_value, v.lengths_value) (omega (arith, p, J.lies.uses))
 
-pub lay_joined-n-requires : goal.lay_joined-n-requires
-lay_joined-n-requires c =
-    let p = c.requires in
-    let a = laying_asks p.0 p.1 c.if-j-second.false c.if-w-wires.false c.total_uses-from.ensures refl in
-    record { turn_in_bounds = a.0; readable = a.1 }
+pub lay_joined-requires-clause-layable : goal.lay_joined-requires-clause-layable
+lay_joined-requires-clause-layable c =
+    let v = c.view-lent.ensures in
+    let J = c.requires.joinable in
+    let W = rw (v.uses_value, v.lengths_value, v.count_value) at c.in-Some-find_wire.ensures in
+    let from = rw v.lengths_value at c.total_uses-from.ensures in
+    rw (v.uses_value, v.lengths_value)
+    (laying_asks J c.args.v0 W from c.args.first.now _ refl refl c.requires.turn_in_bounds (omega (arith, found_is _ _ c.in-Some.ensures)))
 
-pub returns-then-n-eq0 : goal.returns-then-n-eq0
-returns-then-n-eq0 c =
-    call_none c.requires.0 c.args.i c.args.v0 c.args.v1
-    c.find_index-j.ensures
-    c.if-j-second.false
-    c.find_wire-w.ensures
-    c.if-w-wires.false
-    c.total_uses-from.ensures _ _
-    c.lay_joined-n.ensures.out_after.0 c.if-n-eq0.true
+pub returns-in_default-lay_joined-clause-outcome : goal.returns-in_default-lay_joined-clause-outcome
+returns-in_default-lay_joined-clause-outcome c =
+    let v = c.view-lent.ensures in
+    let W = rw (v.uses_value, v.lengths_value, v.count_value) at c.in-Some-find_wire.ensures in
+    let from = rw v.lengths_value at c.total_uses-from.ensures in
+    let laid = rw (v.uses_value, v.lengths_value) at c.in_default-lay_joined.ensures.out_after in
+    call_leaves c.requires.joinable c.args.v0 W from c.args.first.now.by c.args.v1 c.in-Some.ensures none laid
 
-pub replace_wire-requires : goal.replace_wire-requires
-replace_wire-requires c =
-    let l = length-take-le c.lay_joined-n.result c.lay_joined-n.new.out (omega (arith, c.lay_joined-n.ensures.out_after.1, c.lay_joined-n.auto.out)) in
-    (c.requires.0.lies, c.if-w-wires.false, omega (arith, l, c.lay_joined-n.ensures.out_after.1))
+pub replace_wire-requires-clause-w_in_bounds : goal.replace_wire-requires-clause-w_in_bounds
+replace_wire-requires-clause-w_in_bounds c =
+    let v = c.view-lent.ensures in
+    wire_found c.requires.joinable c.args.v0 (rw (v.uses_value, v.lengths_value, v.count_value) at c.in-Some-find_wire.ensures)
 
-pub returns-in_err-count : goal.returns-in_err-count
-returns-in_err-count c =
+pub returns-in_err-count-clause-outcome : goal.returns-in_err-count-clause-outcome
+returns-in_err-count-clause-outcome c =
+    let v = c.view-lent.ensures in
+    let W = rw (v.uses_value, v.lengths_value, v.count_value) at c.in-Some-find_wire.ensures in
+    let from = rw v.lengths_value at c.total_uses-from.ensures in
+    let laid = rw (v.uses_value, v.lengths_value) at c.in-Some-lay_joined.ensures.out_after in
     rw (exit_is _ _ c.from_residual.ensures.1)
-    (rw c.in_err-count.was at (call_stored c.requires.0 c.args.i c.args.v0 c.args.v1
-    c.find_index-j.ensures
-    c.if-j-second.false
-    c.find_wire-w.ensures
-    c.if-w-wires.false
-    c.total_uses-from.ensures _ _
-    c.lay_joined-n.ensures.out_after.0
-    c.replace_wire.ensures
-    c.if-n-eq0.false))
+    (c.in_err-count.ensures.stored ∙ call_leaves c.requires.joinable c.args.v0 W from c.args.first.now.by c.args.v1 c.in-Some.ensures (result _) laid)
 
-pub returns : goal.returns
-returns c =
-    rw c.in_ok-count.was at (call_stored c.requires.0 c.args.i c.args.v0 c.args.v1
-    c.find_index-j.ensures
-    c.if-j-second.false
-    c.find_wire-w.ensures
-    c.if-w-wires.false
-    c.total_uses-from.ensures _ _
-    c.lay_joined-n.ensures.out_after.0
-    c.replace_wire.ensures
-    c.if-n-eq0.false)
+pub returns-clause-outcome : goal.returns-clause-outcome
+returns-clause-outcome c =
+    let v = c.view-lent.ensures in
+    let W = rw (v.uses_value, v.lengths_value, v.count_value) at c.in-Some-find_wire.ensures in
+    let from = rw v.lengths_value at c.total_uses-from.ensures in
+    let laid = rw (v.uses_value, v.lengths_value) at c.in-Some-lay_joined.ensures.out_after in
+    c.in_ok-count.ensures.stored ∙ call_leaves c.requires.joinable c.args.v0 W from c.args.first.now.by c.args.v1 c.in-Some.ensures (result _) laid

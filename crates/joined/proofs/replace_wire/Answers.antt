@@ -6,34 +6,60 @@ use Rattle.joined.proofs.replace_wire.Goals as goal
 
 pub overflow_add-to : goal.overflow_add-to
 overflow_add-to c =
-    let l = wire_lies c.args.uses.now c.args.lengths.now c.args.wires c.args.w c.requires.0 c.requires.1 in
-    omega (arith, c.requires.0.few, c.total_uses-from.ensures)
+    let v = c.view-lent.ensures in
+    let r = c.requires in
+    let from = rw v.lengths_value at c.total_uses-from.ensures in
+    rw v.lengths_value (omega (arith, wire_lies _ _ _ _ r.lies r.w_in_bounds, r.lies.few, from))
 
 pub overflow_sub-rest : goal.overflow_sub-rest
 overflow_sub-rest c =
-    let b = bounds c.args.uses.now c.args.lengths.now c.args.wires c.args.w c.requires.0 c.requires.1 c.args.joined.now _ _ c.total_uses-from.ensures c.total_uses.ensures in
-    omega (arith, b.0)
+    let v = c.view-lent.ensures in
+    let r = c.requires in
+    let from = rw v.lengths_value at c.total_uses-from.ensures in
+    let sum = rw (v.lengths_value, v.count_value) at c.total_uses.ensures in
+    rw v.lengths_value (bounds _ _ _ _ r.lies r.w_in_bounds c.args.joined.now _ _ from sum).0
 
 pub overflow_add-count : goal.overflow_add-count
 overflow_add-count c =
-    let b = bounds c.args.uses.now c.args.lengths.now c.args.wires c.args.w c.requires.0 c.requires.1 c.args.joined.now _ _ c.total_uses-from.ensures c.total_uses.ensures in
-    omega (arith, b.0, b.1, c.requires.2)
+    let v = c.view-lent.ensures in
+    let r = c.requires in
+    let from = rw v.lengths_value at c.total_uses-from.ensures in
+    let sum = rw (v.lengths_value, v.count_value) at c.total_uses.ensures in
+    let b = bounds _ _ _ _ r.lies r.w_in_bounds c.args.joined.now _ _ from sum in
+    omega (arith, b.0, b.1, r.joined_few)
 
 pub overflow_add-count-2 : goal.overflow_add-count-2
 overflow_add-count-2 c =
-    let b = bounds c.args.uses.now c.args.lengths.now c.args.wires c.args.w c.requires.0 c.requires.1 c.args.joined.now _ _ c.total_uses-from.ensures c.total_uses.ensures in
-    omega (arith, b.0, b.1, c.requires.2)
+    let v = c.view-lent.ensures in
+    let r = c.requires in
+    let from = rw v.lengths_value at c.total_uses-from.ensures in
+    let sum = rw (v.lengths_value, v.count_value) at c.total_uses.ensures in
+    let b = bounds _ _ _ _ r.lies r.w_in_bounds c.args.joined.now _ _ from sum in
+    omega (arith, b.0, b.1, r.joined_few)
 
-pub returns-then-not-uses_fit : goal.returns-then-not-uses_fit
-returns-then-not-uses_fit c =
-    stored_full c.args.uses.now c.args.lengths.now c.args.wires c.args.w c.requires.0 c.requires.1 c.args.joined.now _ _ c.total_uses-from.ensures c.total_uses.ensures (sym c.uses_fit.ensures ∙ c.if-not-uses_fit.true)
+pub returns-then-not-uses_fit-clause-stored : goal.returns-then-not-uses_fit-clause-stored
+returns-then-not-uses_fit-clause-stored c =
+    let v = c.view-lent.ensures in
+    let r = c.requires in
+    let from = rw v.lengths_value at c.total_uses-from.ensures in
+    let sum = rw (v.lengths_value, v.count_value) at c.total_uses.ensures in
+    stored_full _ _ _ _ r.lies r.w_in_bounds c.args.joined.now _ _ from sum (rw (v.uses_value, v.lengths_value) at (sym c.uses_fit.ensures ∙ c.if-not-uses_fit.true))
 
 pub replace_uses-requires : goal.replace_uses-requires
 replace_uses-requires c =
-    let b = bounds c.args.uses.now c.args.lengths.now c.args.wires c.args.w c.requires.0 c.requires.1 c.args.joined.now _ _ c.total_uses-from.ensures c.total_uses.ensures in
-    let u = uses_room _ _ (sym c.uses_fit.ensures ∙ c.if-not-uses_fit.false) in
-    (omega (arith, b.0, b.2), omega (arith, u.1, b.0), omega (arith, b.0, b.1))
+    let v = c.view-lent.ensures in
+    let r = c.requires in
+    let from = rw v.lengths_value at c.total_uses-from.ensures in
+    let sum = rw (v.lengths_value, v.count_value) at c.total_uses.ensures in
+    let b = bounds _ _ _ _ r.lies r.w_in_bounds c.args.joined.now _ _ from sum in
+    let u = uses_room _ _ (rw (v.uses_value, v.lengths_value) at (sym c.uses_fit.ensures ∙ c.if-not-uses_fit.false)) in
+    rw v.lengths_value (omega (arith, b.0, b.2), omega (arith, u.1, b.0), omega (arith, b.0, b.1))
 
-pub returns : goal.returns
-returns c =
-    stored_done c.args.uses.now c.args.lengths.now c.args.wires c.args.w c.requires.0 c.requires.1 c.args.joined.now _ _ c.total_uses-from.ensures c.total_uses.ensures _ (sym c.uses_fit.ensures ∙ c.if-not-uses_fit.false) c.replace_uses.ensures
+pub returns-clause-stored : goal.returns-clause-stored
+returns-clause-stored c =
+    let v = c.view-lent.ensures in
+    let r = c.requires in
+    let from = rw v.lengths_value at c.total_uses-from.ensures in
+    let sum = rw (v.lengths_value, v.count_value) at c.total_uses.ensures in
+    let fit = rw (v.uses_value, v.lengths_value) at (sym c.uses_fit.ensures ∙ c.if-not-uses_fit.false) in
+    rw v.lengths_value (stored_done _ _ _ _ r.lies r.w_in_bounds c.args.joined.now _ _ from sum _ fit (rw v.lengths_value at c.replace_uses.ensures))

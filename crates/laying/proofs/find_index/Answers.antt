@@ -1,17 +1,21 @@
-use Rattle.laying.proofs.Places.{seeking_start, seeking_found, seeking_turn, seeking_done}
+use Rattle.std.proofs.Common.{rules, ◌≡◌}
+use mathlib.Core.Path.{◌∙◌}
+use Rattle.std.proofs.lemmas.List.{get_or_default}
+use Rattle.std.proofs.lemmas.Iterator.{IsFirst-from_position, YieldsList-from_slice}
+use Rattle.std.proofs.lemmas.Iterator.Adapters.{serves_from_places}
+use borrow.Author.Tests.{tests}
+use Rattle.compress.specs.Rows.{edge_at}
+use Rattle.compress.specs.Records.{front_at}
+use Rattle.laying.proofs.Places.{position_found}
 use Rattle.laying.proofs.find_index.Goals as goal
 
-pub loop-i-init : goal.loop-i-init
-loop-i-init c = seeking_start _ _ _
-
-pub front_at-requires : goal.front_at-requires
-front_at-requires c = c.requires c.loop-i.i c.loop-i-test.true
-
-pub returns-then-front_at-v : goal.returns-then-front_at-v
-returns-then-front_at-v c = seeking_found _ _ _ _ c.loop-i.invariant c.loop-i-test.true _ c.front_at.ensures c.if-front_at-v.true
-
-pub loop-i-preserved : goal.loop-i-preserved
-loop-i-preserved c = seeking_turn _ _ _ _ c.loop-i.invariant c.loop-i-test.true _ c.front_at.ensures c.if-front_at-v.false
+pub position-requires-clause-callable : goal.position-requires-clause-callable
+position-requires-clause-callable c =
+    serves_from_places (YieldsList-from_slice c.args.wire.now (search rules)) (λ x q k. search rules)
+    (λ x k h e. let r = c.requires k h in let s = e ∙ get_or_default c.args.wire.now k x.now 0 h in λ _ _ _ _ _ _. rw s r)
 
 pub returns : goal.returns
-returns c = seeking_done _ _ _ _ c.loop-i.invariant c.loop-i-test.false
+returns c =
+    let a = c.args in
+    let es = edge_at a.edges.now.numbers.now a.edges.now.floats.now in
+    position_found es a.v a.wire.now c.position.result (IsFirst-from_position _ _ c.position.result (λ u. front_at es u ≡ a.v) (λ u. front_at es u ≡ a.v → ⊥) c.position.ensures.ran (YieldsList-from_slice a.wire.now (search rules)) (λ x q k. search (rules, tests)) (λ x q k. search (rules, tests)))

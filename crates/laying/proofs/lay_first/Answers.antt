@@ -1,20 +1,17 @@
+use mathlib.Core.Path.{◌≡◌, ◌∙◌}
 use Prim.Native.Nat.{◌≤◌}
 use native.Mathlib.Omega.{arith}
 use lib.ListN.{length}
 use Rattle.compress.specs.Rows.{edge_at}
-use Rattle.laying.proofs.Places.{index_le}
+use Rattle.laying.specs.Places.{index_of}
+use Rattle.laying.proofs.Places.{index_le, place_or_end}
 use Rattle.laying.proofs.Laying.{laid_turned}
 use Rattle.laying.proofs.lay_first.Goals as goal
 
-pub lay_turned-requires-2 : goal.lay_turned-requires-2
-lay_turned-requires-2 c =
-    let a = c.args in
-    let l = index_le (edge_at a.edge_numbers.now a.edge_floats.now) a.v0 a.wire.now in
-    (omega (arith, c.find_index-k.ensures), omega (arith, c.requires.1, c.lay_turned.auto.out))
-
 pub returns : goal.returns
 returns c =
-    let e = c.find_index-k.ensures in
-    let l = index_le (edge_at c.args.edge_numbers.now c.args.edge_floats.now) c.args.v0 c.args.wire.now in
-    let k : c.find_index-k.result ≤ length c.args.wire.now = omega (arith, e) in
-    rw (← e) (laid_turned c.args.i c.args.first.now c.find_index-k.result c.args.wire.now c.args.out.now _ _ c.requires.0 k c.lay_turned.ensures c.lay_turned-2.ensures)
+    let a = c.args in
+    let es = edge_at a.edges.now.numbers.now a.edges.now.floats.now in
+    let e : c.unwrap_or-by.result ≡ index_of es a.v0 a.wire.now = c.unwrap_or-by.ensures ∙ place_or_end es a.v0 a.wire.now _ c.find_index.ensures in
+    let k : c.unwrap_or-by.result ≤ length a.wire.now = omega (arith, e, index_le es a.v0 a.wire.now) in
+    rw (← e) (laid_turned a.first.now.by a.first.now.wire.now c.unwrap_or-by.result a.wire.now a.out.now _ _ c.requires.turn_in_bounds k c.lay_turned.ensures c.lay_turned-2.ensures)

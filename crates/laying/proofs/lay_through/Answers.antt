@@ -1,21 +1,9 @@
-use Rattle.laying.proofs.Laying.{second_asks, second_leaves}
+use Rattle.laying.proofs.Laying.{second_asks}
 use Rattle.laying.proofs.lay_through.Goals as goal
 
-pub lay_second-requires : goal.lay_second-requires
-lay_second-requires c =
+pub lay_second-requires-clause-readable : goal.lay_second-requires-clause-readable
+lay_second-requires-clause-readable c =
     let a = c.args in
-    let p = c.requires.turn_in_bounds in
-    second_asks a.edge_numbers.now a.edge_floats.now a.first.now a.wire.now a.second.now _ a.turn a.v0 p.0
-    c.lay_first.ensures a.j _ (p.1, p.2, p.3) c.requires.readable
-
-pub returns : goal.returns
-returns c =
-    let a = c.args in
-    let l = c.lay_second in
-    record {
-      out_after =
-          second_leaves a.edge_numbers.now a.edge_floats.now a.first.now a.wire.now a.second.now _ a.turn a.v0
-          c.requires.turn_in_bounds.0 c.lay_first.ensures a.j a.v1 l.result _
-          c.requires.turn_in_bounds.2 l.ensures.out_after;
-      out_unchanged = l.ensures.out_unchanged;
-    }
+    let l = c.requires.layable in
+    (second_asks a.edges.now.numbers.now a.edges.now.floats.now a.first.now.wire.now a.wire.now a.second.now.wire.now _ a.first.now.by a.v0 l.first_by
+    c.lay_first.ensures l.few l.first_rows l.wire_rows).1

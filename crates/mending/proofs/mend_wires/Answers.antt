@@ -1,19 +1,25 @@
+use Rattle.std.proofs.Common.{arith}
+use mathlib.Core.Path.{sym}
+use lib.Seq.{length-take-le}
 use Rattle.checks.proofs.Accepted.{wires_accepted}
-use native.Mathlib.Omega.{arith}
-use Rattle.mending.proofs.Mending.{replaceable}
 use Rattle.mending.proofs.mend_wires.Goals as goal
 
+pub slice_bounds-total_uses-end : goal.slice_bounds-total_uses-end
+slice_bounds-total_uses-end c =
+    let v = c.view-lent.ensures in
+    rw (v.count_value, v.lengths_value) (sym (length-take-le _ _ (wires_accepted _ _ _ _ c.requires.wires_value).lengths))
+
 pub total_uses-requires : goal.total_uses-requires
-total_uses-requires c = let W = wires_accepted _ _ _ _ c.requires.0 in (W.below, W.lengths)
+total_uses-requires c =
+    let v = c.view-lent.ensures in
+    let W = wires_accepted _ _ _ _ c.requires.wires_value in
+    rw (v.count_value, v.lengths_value, length-take-le _ _ W.lengths) W.below
 
-pub mend_through-requires : goal.mend_through-requires
-mend_through-requires c = replaceable _ _ _ _ _ _ c.requires.0 c.requires.1 (omega (arith, c.total_uses.ensures, c.if-total_uses-le64.true)) (omega arith)
+pub mend_within-requires-clause-uses_few : goal.mend_within-requires-clause-uses_few
+mend_within-requires-clause-uses_few c =
+    let v = c.view-lent.ensures in
+    let t = rw (v.count_value, v.lengths_value) at c.total_uses.ensures in
+    omega (arith, t, c.if-total_uses-le64.true)
 
-pub returns-then-total_uses-le64 : goal.returns-then-total_uses-le64
-returns-then-total_uses-le64 c = c.mend_through.ensures
-
-pub mend_through-requires-2 : goal.mend_through-requires-2
-mend_through-requires-2 c = replaceable _ _ _ _ _ _ c.requires.0 c.requires.1 (omega (arith, (wires_accepted _ _ _ _ c.requires.0).few)) (omega arith)
-
-pub returns : goal.returns
-returns c = c.mend_through-2.ensures
+pub mend_within-requires-else-total_uses-le64-clause-uses_few : goal.mend_within-requires-else-total_uses-le64-clause-uses_few
+mend_within-requires-else-total_uses-le64-clause-uses_few c = omega (arith, (wires_accepted _ _ _ _ c.requires.wires_value).few)

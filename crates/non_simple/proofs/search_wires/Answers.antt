@@ -12,8 +12,8 @@ overflow_add-to c =
     let l = lies _ _ _ _ _ _ c.requires.wires_sound _ _ c.loop-size.invariant c.loop-size-test.true in
     omega (arith, l.0, l.1)
 
-pub offset_bounds-uses-from : goal.offset_bounds-uses-from
-offset_bounds-uses-from c =
+pub offset_bounds-wires-from : goal.offset_bounds-wires-from
+offset_bounds-wires-from c =
     let l = lies _ _ _ _ _ _ c.requires.wires_sound _ _ c.loop-size.invariant c.loop-size-test.true in
     omega (arith, l.0, l.1)
 

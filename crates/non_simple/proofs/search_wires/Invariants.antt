@@ -1,7 +1,7 @@
-use Rattle.compress.specs.Rows.{edge_at, vertex_at}
+use Rattle.nearest.specs.Tables.{vertices_in, edges_in}
 use Rattle.non_simple.proofs.Scanning.{Scanning}
 use Rattle.non_simple.proofs.search_wires.Given as goal
 
 abbrev pub invariant-loop-size : goal.invariant-loop-size
 invariant-loop-size l =
-    Scanning (edge_at l.edge_numbers l.edge_floats) (vertex_at l.vertex_numbers l.vertex_floats) l.uses l.lengths l.wires l.size-index l.from
+    Scanning (edges_in l.edges) (vertices_in l.vertices) l.wires.uses.now l.wires.lengths.now l.wires.count l.size-index l.from

@@ -19,15 +19,15 @@ mend_cut-requires c =
       wires_value = (no_cause _ _ _ _ _ _ _ _ _ c.requires.0).2;
     }
 
-pub returns-in_err-uses : goal.returns-in_err-uses
-returns-in_err-uses c =
+pub returns-in_err-uses-clause-outcome : goal.returns-in_err-uses-clause-outcome
+returns-in_err-uses-clause-outcome c =
     let p = err_from_is_err_and c.from_residual.result c.from_residual.ensures.1 in
-    rw (p.1, p.2) (outcome_full _ _ _ _ _ _ _ _ _ c.args.i c.args.c c.requires.0 _ c.cut_room-room.ensures _ _ _ c.mend_cut.ensures _ c.in_err-uses.was)
+    rw (p.1, p.2) (outcome_full _ _ _ _ _ _ _ _ _ c.args.i c.args.c c.requires.0 _ c.cut_room-room.ensures _ _ _ c.mend_cut.ensures.mended _ c.in_err-uses.was)
 
 pub put_cut-requires : goal.put_cut-requires
 put_cut-requires c =
-    let p = places _ _ _ _ _ _ _ _ _ c.args.i c.args.c c.requires.0 _ c.cut_room-room.ensures _ _ _ c.mend_cut.ensures _ c.in_ok-uses.was in
-    record { n_bound = p.0; i_lt_m = (c.requires.1, p.1.0, p.1.1) }
+    let p = places _ _ _ _ _ _ _ _ _ c.args.i c.args.c c.requires.0 _ c.cut_room-room.ensures _ _ _ c.mend_cut.ensures.mended _ c.in_ok-uses.was in
+    record { vertex_row = p.0; edge_row = (c.requires.1, p.1.0, p.1.1) }
 
 pub overflow_add-result : goal.overflow_add-result
 overflow_add-result c = omega (arith, (accepted _ _ _ _ _ _ _ _ _ c.requires.0).vertices.below)
@@ -35,8 +35,9 @@ overflow_add-result c = omega (arith, (accepted _ _ _ _ _ _ _ _ _ c.requires.0).
 pub overflow_add-result-2 : goal.overflow_add-result-2
 overflow_add-result-2 c = omega (arith, (accepted _ _ _ _ _ _ _ _ _ c.requires.0).edges.below)
 
-pub returns : goal.returns
-returns c =
+pub returns-clause-outcome : goal.returns-clause-outcome
+returns-clause-outcome c =
     let p = c.put_cut.ensures in
-    outcome_done _ _ _ _ _ _ _ _ _ c.args.i c.args.c c.requires.0 _ c.cut_room-room.ensures _ _ _ c.mend_cut.ensures _ _ _ _ _ c.in_ok-uses.was c.requires.1
-    p.vertex_numbers_after p.vertex_floats_after p.edge_numbers_after p.edge_floats_after
+    rw (p.same_vertices.count, p.same_edges.count)
+    (outcome_done _ _ _ _ _ _ _ _ _ c.args.i c.args.c c.requires.0 _ c.cut_room-room.ensures _ _ _ c.mend_cut.ensures.mended _ _ _ _ _ c.in_ok-uses.was c.requires.1
+    p.vertex_numbers_after p.vertex_floats_after p.edge_numbers_after p.edge_floats_after)

@@ -5,8 +5,9 @@ use Rattle.one_cut.proofs.mend_within.Goals as goal
 
 pub mend_wires-requires : goal.mend_wires-requires
 mend_wires-requires g c =
-    map_mends _ c.args.edges c.args.i _ _ _ (marked _ _ _ _ _ refl (rw length-replicate) c.requires.table.0 (rw length-replicate c.requires.table.1)) (omega (arith, c.requires.table)) c.requires.wires_value
+    let m = map_mends _ c.args.edges c.args.i _ _ _ (marked _ _ _ _ _ refl (rw length-replicate) c.requires.table.0 (rw length-replicate c.requires.table.1)) (omega (arith, c.requires.table)) c.requires.wires_value in
+    record { wires_value = m.0; added_small = m.1 }
 
-pub returns : goal.returns
-returns g c =
-    rw (marked (replicate g.row.N 0) _ c.args.edges c.args.i c.args.edges refl (rw length-replicate) c.requires.table.0 (rw length-replicate c.requires.table.1)) at c.mend_wires.ensures
+pub returns-clause-mended : goal.returns-clause-mended
+returns-clause-mended g c =
+    rw (marked (replicate g.row.N 0) _ c.args.edges c.args.i c.args.edges refl (rw length-replicate) c.requires.table.0 (rw length-replicate c.requires.table.1)) at c.mend_wires.ensures.mended

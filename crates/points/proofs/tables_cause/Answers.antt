@@ -13,7 +13,7 @@ returns c =
     rw (
       c.lower-2.ensures,
       c.lower.ensures,
-      c.pending-p.ensures,
+      c.pending.ensures,
       c.vertices-v.ensures,
       c.edges-e.ensures,
     )

@@ -1,17 +1,22 @@
 use Rattle.std.proofs.Common.{arith, sym}
-use Rattle.std.proofs.lemmas.Result.{err_from_is_err_and}
+use lib.Seq.{length-take-le}
+use Rattle.compress.proofs.Refused.{exit_is}
 use Rattle.split_causes.proofs.Accepted.{input_accepted, cause_input, cause_room, cause_odd, cause_repeat}
 use Rattle.split_causes.proofs.split_cause.Goals as goal
 
 pub returns-in_err-split_input_cause : goal.returns-in_err-split_input_cause
 returns-in_err-split_input_cause c = λ s.
-    let p = err_from_is_err_and c.from_residual.result c.from_residual.ensures.1 in
-    rw (p.1, p.2) (cause_input _ _ (c.in_err-split_input_cause.ensures _ _ s))
+    rw (exit_is _ _ c.from_residual.ensures.1) (cause_input _ _ (c.in_err-split_input_cause.ensures _ _ s))
+
+pub slice_bounds-total_uses-end : goal.slice_bounds-total_uses-end
+slice_bounds-total_uses-end c =
+    let A = input_accepted _ (sym (c.in_ok-split_input_cause.ensures c.args.uses.now c.args.lengths.now 0)) in
+    sym (length-take-le c.args.rebuilt.now.count c.args.rebuilt.now.lengths.now A.rebuilt_lengths)
 
 pub total_uses-requires : goal.total_uses-requires
 total_uses-requires c =
     let A = input_accepted _ (sym (c.in_ok-split_input_cause.ensures c.args.uses.now c.args.lengths.now 0)) in
-    (omega (arith, A.wires), A.rebuilt_lengths)
+    rw (length-take-le c.args.rebuilt.now.count c.args.rebuilt.now.lengths.now A.rebuilt_lengths) (omega (arith, A.wires))
 
 pub overflow_add-n : goal.overflow_add-n
 overflow_add-n c =
@@ -26,19 +31,17 @@ overflow_add-edges c =
 pub returns-in_err-room_cause : goal.returns-in_err-room_cause
 returns-in_err-room_cause c = λ s.
     let r = c.from_residual-in_err-room_cause in
-    let p = err_from_is_err_and r.result r.ensures.1 in
-    rw (p.1, p.2) (cause_room _ (c.in_ok-split_input_cause.ensures c.args.uses.now c.args.lengths.now s) _ (rw (← c.total_uses.ensures) c.in_err-room_cause.ensures))
+    rw (exit_is _ _ r.ensures.1) (cause_room _ (c.in_ok-split_input_cause.ensures c.args.uses.now c.args.lengths.now s) _ (rw (← c.total_uses.ensures) c.in_err-room_cause.ensures))
 
 pub returns-in_err-odd_cause : goal.returns-in_err-odd_cause
 returns-in_err-odd_cause c = λ s.
     let r = c.from_residual-in_err-odd_cause in
-    let p = err_from_is_err_and r.result r.ensures.1 in
-    rw (p.1, p.2) (cause_odd _ (c.in_ok-split_input_cause.ensures c.args.uses.now c.args.lengths.now s) (rw (← c.total_uses.ensures) c.in_ok-room_cause.ensures) _ c.in_err-odd_cause.ensures)
+    rw (exit_is _ _ r.ensures.1) (cause_odd _ (c.in_ok-split_input_cause.ensures c.args.uses.now c.args.lengths.now s) (rw (← c.total_uses.ensures) c.in_ok-room_cause.ensures) _ c.in_err-odd_cause.ensures)
 
 pub repeat_cause-requires : goal.repeat_cause-requires
 repeat_cause-requires c =
     let A = input_accepted _ (sym (c.in_ok-split_input_cause.ensures c.args.uses.now c.args.lengths.now 0)) in
-    (A.stops_lent, A.stops_known, A.vertices)
+    record { lent = A.stops_lent; known = A.stops_known; few = A.vertices }
 
 pub returns : goal.returns
 returns c = λ s.

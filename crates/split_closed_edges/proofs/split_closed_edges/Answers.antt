@@ -3,13 +3,10 @@ use mathlib.Core.Path.{sym}
 use Rattle.split_closed_edges.proofs.Outcome.{outcome_cause}
 use Rattle.split_closed_edges.proofs.split_closed_edges.Goals as goal
 
-pub returns-in_err-input_cause : goal.returns-in_err-input_cause
-returns-in_err-input_cause c =
+pub returns-in_err-input_cause-clause-outcome : goal.returns-in_err-input_cause-clause-outcome
+returns-in_err-input_cause-clause-outcome c =
     let p = err_from_is_err_and c.from_residual.result c.from_residual.ensures.1 in
     rw (p.1, p.2) (outcome_cause _ _ _ _ _ _ _ _ _ _ c.in_err-input_cause.ensures)
 
 pub split_checked-requires : goal.split_checked-requires
 split_checked-requires c = sym c.in_ok-input_cause.ensures
-
-pub returns : goal.returns
-returns c = c.split_checked.ensures

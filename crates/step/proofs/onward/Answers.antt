@@ -5,11 +5,11 @@ use Rattle.step.proofs.onward.Goals as goal
 pub returns-then-m-eq0 : goal.returns-then-m-eq0
 returns-then-m-eq0 c = one (c.from.result - 2) (omega arith) c.if-m-eq0.true refl refl refl
 
-pub returns-then-next-a-ne0 : goal.returns-then-next-a-ne0
-returns-then-next-a-ne0 c =
+pub returns-then-lists-a-ne0 : goal.returns-then-lists-a-ne0
+returns-then-lists-a-ne0 c =
     let p = c.from.result - 2 in
     let a = c.from-a.result - 1 in
-    many p a (get_or c.args.next.now a 0 - 1) (omega arith) (omega arith) (omega arith) refl refl refl
+    many p a (get_or c.args.lists.now.next a 0 - 1) (omega arith) (omega arith) (omega arith) refl refl refl
 
 pub returns-then-takes_first : goal.returns-then-takes_first
 returns-then-takes_first c =

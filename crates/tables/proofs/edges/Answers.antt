@@ -1,24 +1,11 @@
-use mathlib.Core.Path.{sym}
-use borrow.Author.Tests.{lt-ltb, le-ltb}
-use Rattle.checks.specs.Causes.{edges_cause}
+use Rattle.std.proofs.Common.{rules, ℕ}
+use Rattle.checks.specs.Causes.{edge_row_cause, edges_cause}
+use Rattle.checks.proofs.Sound.{narrow_le}
 use Rattle.tables.proofs.edges.Goals as goal
-
-pub returns-then-count-gt4096 : goal.returns-then-count-gt4096
-unfolding edges_cause
-returns-then-count-gt4096 c = simp (lt-ltb _ _ c.if-count-gt4096.true)
-
-pub returns-then-numbers-count : goal.returns-then-numbers-count
-unfolding edges_cause
-returns-then-numbers-count c = simp (le-ltb _ _ c.if-count-gt4096.false, lt-ltb _ _ c.if-numbers-count.true)
-
-pub returns-then-floats-count : goal.returns-then-floats-count
-unfolding edges_cause
-returns-then-floats-count c = simp (le-ltb _ _ c.if-count-gt4096.false, le-ltb _ _ c.if-numbers-count.false, lt-ltb _ _ c.if-floats-count.true)
-
-pub returns-then-are_edges_sound : goal.returns-then-are_edges_sound
-unfolding edges_cause
-returns-then-are_edges_sound c = simp (le-ltb _ _ c.if-count-gt4096.false, le-ltb _ _ c.if-numbers-count.false, le-ltb _ _ c.if-floats-count.false) (sym (c.are_edges_sound.ensures c.if-are_edges_sound.true))
 
 pub returns : goal.returns
 unfolding edges_cause
-returns c = simp (le-ltb _ _ c.if-count-gt4096.false, le-ltb _ _ c.if-numbers-count.false, le-ltb _ _ c.if-floats-count.false) c.edge_rows.ensures
+returns c =
+    let a = c.args in
+    let f : ℕ → ℕ = edge_row_cause a.vertices a.edges.now.numbers.now a.edges.now.floats.now in
+    c.table.ensures f (λ i h p. search (rules, narrow_le a.vertices c.narrow-bound.result c.narrow-bound.ensures)) (λ i r h p. search rules)

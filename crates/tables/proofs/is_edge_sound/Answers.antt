@@ -11,4 +11,4 @@ returns-then-numbers-a-2 c = λ e. no e
 pub returns : goal.returns
 returns c = λ e v h.
     let a = c.args in
-    edge_sound v a.numbers.now a.floats.now a.i (omega (arith, c.if-numbers-a.false)) (omega (arith, c.if-numbers-a-2.false)) (c.is_curve_sound.ensures e)
+    edge_sound v a.edges.now.numbers.now a.edges.now.floats.now a.i (omega (arith, c.if-numbers-a.false)) (omega (arith, c.if-numbers-a-2.false)) (c.is_curve_sound.ensures e)

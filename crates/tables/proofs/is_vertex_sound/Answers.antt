@@ -9,4 +9,4 @@ pub returns-then-kind-ne1 : goal.returns-then-kind-ne1
 returns-then-kind-ne1 c = λ e. no e
 
 pub returns : goal.returns
-returns c = λ e. let a = c.args in pending_sound a.numbers.now a.floats.now a.i c.if-kind-ne1.false (c.is_pending_sound.ensures e)
+returns c = λ e. let a = c.args in pending_sound a.vertices.now.numbers.now a.vertices.now.floats.now a.i c.if-kind-ne1.false (c.is_pending_sound.ensures e)

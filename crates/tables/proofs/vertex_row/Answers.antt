@@ -3,4 +3,4 @@ use Rattle.tables.proofs.vertex_row.Goals as goal
 
 pub returns : goal.returns
 unfolding vertex_row_cause
-returns c = rw (c.lower-2.ensures, c.lower.ensures, c.vertex.ensures, c.vertex_at-v.ensures, c.curve_kind-c.ensures, c.kind-k.ensures)
+returns c = rw (c.lower-2.ensures, c.lower.ensures, c.vertex.ensures, c.at.ensures, c.curve_kind-c.ensures, c.kind-k.ensures)

@@ -1,21 +1,20 @@
-use Rattle.std.proofs.lemmas.Result.{err_from_is_err_and}
+use Rattle.compress.proofs.Refused.{exit_is}
 use Rattle.walk.proofs.Storing.{nothing_left, wires_fit, lengths_fit, copies_left}
 use Rattle.walk.proofs.walk_wires.Goals as goal
 
 pub returns-in_err-walked : goal.returns-in_err-walked
 returns-in_err-walked c =
-    let p = err_from_is_err_and c.from_residual.result c.from_residual.ensures.1 in
-    rw (p.1, p.2) (nothing_left _ _ _ _ _ _ _ c.in_err-walked.ensures.traced)
+    rw (exit_is _ _ c.from_residual.ensures.1) (nothing_left _ _ _ _ _ _ _ c.in_err-walked.ensures.traced)
 
 pub copy_wires-requires : goal.copy_wires-requires
 copy_wires-requires c =
     let w = c.in_ok-walked in
-    wires_fit c.requires.sound _ _ w.walked w.ensures.traced _ w.ensures.made_len_2 c.requires.uses_in_bounds.0
+    wires_fit c.requires.sound _ _ w.walked w.ensures.traced _ (w.ensures.made_len, w.ensures.sizes_len) c.requires.uses_room
 
 pub copy-requires : goal.copy-requires
 copy-requires c =
     let w = c.in_ok-walked in
-    lengths_fit c.requires.sound _ _ w.walked w.ensures.traced _ w.ensures.made_len_2.1 c.requires.uses_in_bounds.1
+    lengths_fit c.requires.sound _ _ w.walked w.ensures.traced _ w.ensures.sizes_len c.requires.lengths_room
 
 pub returns : goal.returns
 returns c =

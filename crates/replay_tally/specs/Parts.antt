@@ -1,0 +1,20 @@
+-- How a tally counts, and which list comes behind which. Definitions only.
+use Rattle.std.specs.Prelude.{ℕ, Bool, true, false, ◌+◌, min}
+use Rattle.replay_tally.specs.declared.Part.{Part}
+use Rattle.replay_tally.specs.declared.Part.TheVariants.{Stored, Altered, Ended}
+use Rattle.replay_tally.specs.declared.Tally.{Tally}
+
+-- one more, or the largest number
+abbrev pub more : ℕ → ℕ
+more n = min (n + 1) 18446744073709551615
+
+-- the tally with one more call
+abbrev pub counted : Tally → Bool → Tally
+counted t true = record { calls = more t.calls; same = more t.same }
+counted t false = record { calls = more t.calls; same = t.same }
+
+-- the altered records come behind the stored ones, and behind them nothing
+abbrev pub part_behind : Part → Part
+part_behind Stored = Altered
+part_behind Altered = Ended
+part_behind Ended = Ended

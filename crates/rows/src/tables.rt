@@ -1,0 +1,193 @@
+// Tables of records, as a host lends them: a slice of numbers, a slice of floats, and how many rows they are said to hold.
+ghost use Rattle.std.specs.Prelude.{◌≡◌, ℕ, List, Float, ◌+◌, ◌*◌, ◌/◌, ◌≤◌, length};
+ghost use Rattle.compress.specs.Layout.{Layout, put};
+ghost use Rattle.compress.specs.Records.{front_at};
+ghost use Rattle.compress.specs.Rows.{edge_at, edge_number_layout, edge_float_layout, vertex_at, vertex_number_layout, vertex_float_layout};
+ghost use Rattle.compress.specs.Shell.{rows_fit};
+ghost use Rattle.rows.specs.Places.{SameTable};
+ghost use Rattle.std.proofs.Common.{rules};
+
+use compress::{Edge, Vertex};
+use std::marker::PhantomData;
+
+// A record that has a row of numbers and a row of floats.
+pub trait Row: Copy {
+    ghost NUMBERS: { ℕ };
+
+    ghost FLOATS: { ℕ };
+
+    // What rows hold, and how a record lies in its row.
+    ghost row_at: { List ℕ → List Float → ℕ → Self };
+
+    ghost number_layout: { Layout ℕ Self };
+
+    ghost float_layout: { Layout Float Self };
+
+    // How many numbers, and how many floats, a row has.
+    const NUMBERS: usize;
+
+    const FLOATS: usize;
+
+    // The record of row i.
+    fn read(numbers: &[u32], floats: &[f64], i: usize) -> Self
+        requires { (i * NUMBERS + NUMBERS ≤ length numbers.now) × (i * FLOATS + FLOATS ≤ length floats.now) }
+        ensures { result ≡ row_at numbers.now floats.now i };
+
+    // The record is written to row i.
+    fn write(self, numbers: &mut [u32], floats: &mut [f64], i: usize)
+        requires { (i * NUMBERS + NUMBERS ≤ length numbers.old) × (i * FLOATS + FLOATS ≤ length floats.old) }
+        ensures numbers_after { numbers.new ≡ put number_layout numbers.old i self }
+        ensures floats_after { floats.new ≡ put float_layout floats.old i self };
+
+    // A row is short.
+    ghost short: { (NUMBERS ≤ 8) × (FLOATS ≤ 8) };
+}
+
+impl Row for Edge {
+    ghost NUMBERS = { 4 };
+
+    ghost FLOATS = { 6 };
+
+    ghost row_at = { edge_at };
+
+    ghost number_layout = { edge_number_layout };
+
+    ghost float_layout = { edge_float_layout };
+
+    const NUMBERS: usize = 4;
+
+    const FLOATS: usize = 6;
+
+    fn read(numbers: &[u32], floats: &[f64], i: usize) -> Edge {
+        compress::edge_at(numbers, floats, i)
+    }
+
+    fn write(self, numbers: &mut [u32], floats: &mut [f64], i: usize) {
+        crate::put_edge(numbers, floats, i, self);
+    }
+
+    ghost short = { Prim.search rules };
+}
+
+impl Row for Vertex {
+    ghost NUMBERS = { 3 };
+
+    ghost FLOATS = { 7 };
+
+    ghost row_at = { vertex_at };
+
+    ghost number_layout = { vertex_number_layout };
+
+    ghost float_layout = { vertex_float_layout };
+
+    const NUMBERS: usize = 3;
+
+    const FLOATS: usize = 7;
+
+    fn read(numbers: &[u32], floats: &[f64], i: usize) -> Vertex {
+        compress::vertex_at(numbers, floats, i)
+    }
+
+    fn write(self, numbers: &mut [u32], floats: &mut [f64], i: usize) {
+        crate::put_vertex(numbers, floats, i, self);
+    }
+
+    ghost short = { Prim.search rules };
+}
+
+// A table, to be read. Nothing is checked of it here.
+#[derive(Clone, Copy)]
+pub struct Table<'a, R> {
+    pub numbers: &'a [u32],
+    pub floats: &'a [f64],
+    pub count: usize,
+    pub of: PhantomData<R>,
+}
+
+impl<'a, R: Row> Table<'a, R> {
+    pub fn new(numbers: &'a [u32], floats: &'a [f64], count: usize) -> Table<'a, R>
+        ensures numbers_value { result.numbers.now ≡ numbers.now }
+        ensures floats_value { result.floats.now ≡ floats.now }
+        ensures count_value { result.count ≡ count }
+    {
+        Table {
+            numbers,
+            floats,
+            count,
+            of: PhantomData,
+        }
+    }
+
+    // The record of row i.
+    pub fn at(&self, i: usize) -> R
+        requires { (i * R.NUMBERS + R.NUMBERS ≤ length self.now.numbers.now) × (i * R.FLOATS + R.FLOATS ≤ length self.now.floats.now) }
+        ensures { result ≡ R.row_at self.now.numbers.now self.now.floats.now i }
+    {
+        R::read(self.numbers, self.floats, i)
+    }
+
+    // n rows are within their bound, and a place is lent for each of their cells.
+    pub fn fits(&self, n: usize) -> bool
+        ensures { result ≡ rows_fit R.NUMBERS R.FLOATS self.now.numbers.now self.now.floats.now n }
+    {
+        if n > 4096 {
+            return false;
+        }
+        n * R::NUMBERS <= self.numbers.len() && n * R::FLOATS <= self.floats.len()
+    }
+}
+
+impl Table<'_, Edge> {
+    // The front of a use.
+    pub fn front(&self, u: u32) -> u32
+        requires { (u / 2 * 4 + 4 ≤ length self.now.numbers.now) × (u / 2 * 6 + 6 ≤ length self.now.floats.now) }
+        ensures { result ≡ front_at (edge_at self.now.numbers.now self.now.floats.now) u }
+    {
+        compress::front_at(self.numbers, self.floats, u)
+    }
+}
+
+// A table, to be written.
+#[derive(Drop)]
+pub struct TableMut<'a, R> {
+    pub numbers: &'a mut [u32],
+    pub floats: &'a mut [f64],
+    pub count: usize,
+    pub of: PhantomData<R>,
+}
+
+impl<'a, R: Row> TableMut<'a, R> {
+    pub fn new(numbers: &'a mut [u32], floats: &'a mut [f64], count: usize) -> TableMut<'a, R>
+        ensures numbers_value { result.numbers.now ≡ numbers.old }
+        ensures floats_value { result.floats.now ≡ floats.old }
+        ensures count_value { result.count ≡ count }
+        ensures same_numbers { result.numbers.ghost_name ≡ numbers.entry.ghost_name }
+        ensures same_floats { result.floats.ghost_name ≡ floats.entry.ghost_name }
+    {
+        TableMut {
+            numbers,
+            floats,
+            count,
+            of: PhantomData,
+        }
+    }
+
+    // The table as it is now, to be read.
+    pub fn view(&self) -> Table<'_, R>
+        ensures numbers_value { result.numbers.now ≡ self.now.numbers.now }
+        ensures floats_value { result.floats.now ≡ self.now.floats.now }
+        ensures count_value { result.count ≡ self.now.count }
+    {
+        Table::new(self.numbers, self.floats, self.count)
+    }
+
+    // The record is written to row i.
+    pub fn put(&mut self, i: usize, record: R)
+        requires { (i * R.NUMBERS + R.NUMBERS ≤ length self.old.numbers.now) × (i * R.FLOATS + R.FLOATS ≤ length self.old.floats.now) }
+        ensures numbers_after { self.new.numbers.now ≡ put R.number_layout self.old.numbers.now i «record» }
+        ensures floats_after { self.new.floats.now ≡ put R.float_layout self.old.floats.now i «record» }
+        ensures same { SameTable self.old self.new }
+    {
+        record.write(self.numbers, self.floats, i);
+    }
+}
