@@ -18,7 +18,8 @@ use Rattle.split_closed_edges.specs.Pass.{split_closed_edges}
 use Rattle.compress.specs.Choice.{smaller}
 use Rattle.periodic.specs.Unwrap.{away_from, nearest_of, unwrapped, period_cause_of, unwrap_cause, get_mindiff}
 use Rattle.nearest.specs.declared.Ends.{Ends}
-use Rattle.nearest.specs.Ends.{point_of, point_gap, gap_from, fronts_of, nearest_front, nearest_ends}
+use Rattle.compress.specs.Points.{point_of}
+use Rattle.nearest.specs.Ends.{point_gap, gap_from, fronts_of, nearest_front, nearest_ends}
 use Rattle.wires.specs.Turn.{turned}
 use Rattle.loops.specs.Loop.{nothing, insert, searched, first_repeat}
 use Rattle.divisor.specs.Divided.{second_pair, divided_by, turned_divisor}

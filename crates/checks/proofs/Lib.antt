@@ -1,3 +1,4 @@
 pub mod Lowest
 pub mod Sound
 pub mod Accepted
+pub mod Lying

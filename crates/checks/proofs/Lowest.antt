@@ -1,7 +1,7 @@
 -- The lowest cause wins: it is one of the causes, none is lower, and where it is 0 there is none.
 -- Assumes nothing.
 use mathlib.Core.Path.{◌≡◌, refl, ◌∙◌}
-use mathlib.Core.List.{List, [], ◌∷◌, ◌++◌}
+use mathlib.Core.List.{List}
 use mathlib.Core.Logic.{◌⊎◌, inl, inr, ⊎_elim}
 use Prim.Native.Nat.{ℕ, zero, suc, ◌+◌, ◌≤◌, ◌<◌, min}
 use native.Mathlib.Nat.{eq-or-lt_of_le}
@@ -9,12 +9,10 @@ use native.Mathlib.Numerals.{add-one}
 use native.Mathlib.Omega.{arith}
 use native.Mathlib.Decide.{dec_le}
 use lib.Dec.{eqb-suc-zero}
-use lib.ListN.{length, get_or, take}
+use lib.ListN.{length, take}
 use Rattle.compress.specs.declared.Refusal.{Refusal}
 use Rattle.compress.specs.Refusals.{refusal_number}
-use Rattle.compress.specs.Wires.{total}
 use Rattle.compress.proofs.Refused.{number_above}
-use Rattle.compress.proofs.Cells.{take_more}
 use lib.Seq.{get_or-take, length-take-le}
 use Rattle.checks.specs.Causes.{lower_of, lowest_of, uses_cause}
 
@@ -132,19 +130,6 @@ lowest_met f (suc n) = by (lowest_met f n) (lower_is (lowest_of f n) (f n))
     by k (none p q r) = inl r
     by k (first p q r) = ⊎_elim (λ z. absurd (omega arith)) (λ w. inr (w.0, omega arith, q ∙ w.2)) k
     by k (second p q r) = inr (n, omega arith, q)
-
--- ---- the sum of lengths, one length further
-total_append : (xs : List ℕ) (y : ℕ) → total (xs ++ (y ∷ [])) ≡ total xs + y
-unfolding total
-total_append [] y = omega arith
-total_append (x ∷ xs) y = omega (arith, total_append xs y)
-
-pub total_more : (ls : List ℕ) (i : ℕ) → i < length ls → total (take (i + 1) ls) ≡ total (take i ls) + get_or ls i 0
-total_more ls i h = rw (take_more 0 ls i h) (total_append (take i ls) (get_or ls i 0))
-
-pub total_none : (ls : List ℕ) → total (take 0 ls) ≡ 0
-unfolding total
-total_none ls = refl
 
 -- ---- the front of a slice of uses
 pub uses_front : (edges : ℕ) (us : List ℕ) (n : ℕ) → n ≤ length us → uses_cause edges (take n us) (length (take n us)) ≡ uses_cause edges us n

@@ -9,7 +9,7 @@ use borrow.Author.Tests.{leb-true}
 use lib.Dec.{leb}
 use lib.ListN.{length}
 use lib.Ieee.{Float}
-use Rattle.compress.specs.Shell.{vertices_fit, edges_fit, uses_fit}
+use Rattle.compress.specs.Shell.{rows_fit, vertices_fit, edges_fit, uses_fit}
 
 pub both : (a b : Bool) → (a && b) ≡ true → (a ≡ true) × (b ≡ true)
 both true b e = (refl, e)
@@ -24,13 +24,16 @@ three a b c x y z e =
     let q = both (leb b y) (leb c z) p.1 in
     (leb-true a x p.0, leb-true b y q.0, leb-true c z q.1)
 
+pub rows_room : (w v : ℕ) (ns : List ℕ) (fs : List Float) (n : ℕ) → rows_fit w v ns fs n ≡ true → (n ≤ 4096) × (n * w ≤ length ns) × (n * v ≤ length fs)
+rows_room w v ns fs n e = three n (n * w) (n * v) 4096 (length ns) (length fs) e
+
 pub vertices_room : (ns : List ℕ) (fs : List Float) (n : ℕ) → vertices_fit ns fs n ≡ true → (n ≤ 4096) × (n * 3 ≤ length ns) × (n * 7 ≤ length fs)
 unfolding vertices_fit
-vertices_room ns fs n e = three n (n * 3) (n * 7) 4096 (length ns) (length fs) e
+vertices_room = rows_room 3 7
 
 pub edges_room : (ns : List ℕ) (fs : List Float) (n : ℕ) → edges_fit ns fs n ≡ true → (n ≤ 4096) × (n * 4 ≤ length ns) × (n * 6 ≤ length fs)
 unfolding edges_fit
-edges_room ns fs n e = three n (n * 4) (n * 6) 4096 (length ns) (length fs) e
+edges_room = rows_room 4 6
 
 pub uses_room : (us : List ℕ) (n : ℕ) → uses_fit us n ≡ true → (n ≤ 1024) × (n ≤ length us)
 unfolding uses_fit

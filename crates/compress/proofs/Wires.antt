@@ -1,13 +1,13 @@
 -- Wires in a slice, one wire at a time.
 -- Assumes nothing.
-use mathlib.Core.Path.{◌≡◌, ◌∙◌}
-use mathlib.Core.List.{List, ◌∷◌}
-use Prim.Native.Nat.{ℕ, ◌+◌, ◌-◌, ◌≤◌, ◌<◌}
+use mathlib.Core.Path.{◌≡◌, refl, ap, sym, ◌∙◌}
+use mathlib.Core.List.{List, [], ◌∷◌, ◌++◌}
+use Prim.Native.Nat.{ℕ, suc, ◌+◌, ◌-◌, ◌≤◌, ◌<◌}
 use native.Mathlib.Numerals.{add-one}
 use native.Mathlib.Omega.{arith}
 use lib.ListN.{length, get_or, take, drop, length-drop}
-use lib.Seq.{drop-cons, drop-drop, length-take-le, get_or-take, get_or-drop}
-use Rattle.compress.specs.Wires.{total, wires_of}
+use lib.Seq.{take-suc, take-add, drop-cons, drop-drop, length-take-le, get_or-take, get_or-drop}
+use Rattle.compress.specs.Wires.{total, wires_of, uses_of}
 
 module _ (us ls : List ℕ) (n w from : ℕ) (lent : n ≤ length ls) (lt : w < n) where
   -- the lengths that are left: that of wire w, and the rest
@@ -40,3 +40,31 @@ part_at d l a b k h = get_or-take (b - a) (drop a l) k d h ∙ get_or-drop a l k
 
 pub part_size : {A : Type 0} (l : List A) (a b : ℕ) → b ≤ length l → length (take (b - a) (drop a l)) ≡ b - a
 part_size l a b h = length-take-le (b - a) (drop a l) (rw length-drop (omega arith))
+
+-- ---- sums of the first of a list
+pub total_none : (ls : List ℕ) → total (take 0 ls) ≡ 0
+unfolding total
+total_none ls = refl
+
+total_append : (a : List ℕ) (n : ℕ) → total (a ++ (n ∷ [])) ≡ total a + n
+unfolding total
+total_append [] n = omega arith
+total_append (x ∷ a) n = omega (arith, total_append a n)
+
+pub total_more : (ls : List ℕ) (k : ℕ) → k < length ls → total (take (k + 1) ls) ≡ total (take k ls) + get_or ls k 0
+total_more ls k h = rw (add-one k, take-suc ls k 0 h) (total_append (take k ls) (get_or ls k 0))
+
+-- ---- the uses of all wires
+pub uses_all : (us ls : List ℕ) → uses_of (wires_of us ls) ≡ take (total ls) us
+unfolding uses_of wires_of total
+uses_all us [] = refl
+uses_all us (n ∷ ls) = rw (uses_all (drop n us) ls) (sym (take-add n (total ls) us))
+
+-- ---- as many wires as lengths
+pub length_wires : (us ls : List ℕ) → length (wires_of us ls) ≡ length ls
+unfolding wires_of
+length_wires us [] = refl
+length_wires us (n ∷ ls) = ap suc (length_wires (drop n us) ls)
+
+pub wire_count : (us ls : List ℕ) (n : ℕ) → n ≤ length ls → length (wires_of us (take n ls)) ≡ n
+wire_count us ls n h = length_wires us (take n ls) ∙ length-take-le n ls h

@@ -1,5 +1,6 @@
 pub mod Records
 pub mod Choice
+pub mod Points
 pub mod Refusals
 pub mod Said
 pub mod Layout

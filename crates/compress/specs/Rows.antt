@@ -2,7 +2,7 @@
 -- An edge's numbers: front, back, kind, curve or surface number; its floats: u, v, u, v, t0, t1, of which a span has the last two.
 -- A vertex's numbers: kind (0 given, 1 pending), curve kind, curve or surface number; its floats: x, y, z where it is given,
 -- else those of its curve and then the parameter.
-use Rattle.std.specs.Prelude.{List, [], ◌∷◌, ◌++◌, ℕ, ◌+◌, ◌*◌, get_or, eqb, Float}
+use Rattle.std.specs.Prelude.{List, [], ◌∷◌, ◌++◌, ℕ, ◌+◌, ◌*◌, ◌≤◌, length, get_or, eqb, Float}
 use Rattle.std.specs.Float.{nan}
 use Rattle.compress.specs.declared.Uv.{Uv}
 use Rattle.compress.specs.declared.Curve.{Curve}
@@ -12,6 +12,10 @@ use Rattle.compress.specs.declared.Vertex.{Vertex}
 use Rattle.compress.specs.declared.Vertex.TheVariants.{Given, Pending}
 use Rattle.compress.specs.Records.{pick, kind_of, number_of}
 use Rattle.compress.specs.Layout.{Layout}
+
+-- Row i, of w numbers and v floats, lies in the two slices.
+abbrev pub HasRow : ℕ → ℕ → List ℕ → List Float → ℕ → Type 0
+HasRow w v ns fs i = (i * w + w ≤ length ns) × (i * v + v ≤ length fs)
 
 -- ---- records read
 

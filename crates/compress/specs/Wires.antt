@@ -1,5 +1,5 @@
 -- Wires in a slice of uses, with their lengths in a slice beside it. Definitions only.
-use Rattle.std.specs.Prelude.{List, [], ◌∷◌, ◌++◌, ℕ, ◌+◌, length, take, drop}
+use Rattle.std.specs.Prelude.{List, [], ◌∷◌, ◌++◌, ℕ, ◌+◌, ◌/◌, ◌<◌, length, get_or, take, drop}
 
 -- "the use count is the sum of the wire lengths"
 unfoldable pub total : List ℕ → ℕ
@@ -23,3 +23,7 @@ lengths_of (w ∷ ws) = length w ∷ lengths_of ws
 -- a list written over the front of a slice: "Entries past a result keep what they held"
 abbrev pub over : List ℕ → List ℕ → List ℕ
 over front slice = front ++ drop (length front) slice
+
+-- each use is of an edge below n
+abbrev pub UsesBelow : ℕ → List ℕ → Type 0
+UsesBelow n us = (k : ℕ) → k < length us → get_or us k 0 / 2 < n

@@ -1,17 +1,27 @@
 // The records of document 003 (`compress.rs`), the refusals of document 01, and the rows in which records lie in lent slices.
 #![tactic(auto)]
 
-ghost use Rattle.std.specs.Prelude.{◌≡◌, ◌+◌, ◌*◌, ◌/◌, ◌≤◌, length};
-ghost use Rattle.compress.specs.Records.{front_of, front_at};
+ghost use Rattle.std.specs.Prelude.{◌≡◌, ◌+◌, ◌*◌, ◌/◌, ◌≤◌, length, get_or};
+ghost use Rattle.std.specs.Float.{nan};
+ghost use Rattle.compress.specs.Records.{front_of, front_at, first_of, last_of};
+ghost use Rattle.compress.specs.Points.{point_of};
 ghost use Rattle.compress.specs.Refusals.{refusal_number};
 ghost use Rattle.compress.specs.Layout.{put};
-ghost use Rattle.compress.specs.Rows.{curve_of, curve_at, edge_at, vertex_at};
+ghost use Rattle.compress.specs.Rows.{HasRow, curve_of, curve_at, edge_at, vertex_at};
 
 // A point of a surface's parameter plane.
 #[derive(Clone, Copy)]
 pub struct Uv {
     pub u: f64,
     pub v: f64,
+}
+
+// A point in space.
+#[derive(Clone, Copy)]
+pub struct Xyz {
+    pub x: f64,
+    pub y: f64,
+    pub z: f64,
 }
 
 // A curve: a span of a numbered curve, or a seam on a numbered surface between two of its points. Both run from t0 to t1.
@@ -31,6 +41,31 @@ pub enum Curve {
     },
 }
 
+impl Xyz {
+    // The point of the three floats from place j on.
+    pub fn read(floats: &[f64], j: usize) -> Xyz
+        requires { j + 3 ≤ length floats.now }
+        ensures { result ≡ record { x = get_or floats.now j nan; y = get_or floats.now (j + 1) nan; z = get_or floats.now (j + 2) nan } }
+    {
+        Xyz {
+            x: floats[j],
+            y: floats[j + 1],
+            z: floats[j + 2],
+        }
+    }
+}
+
+impl Curve {
+    // Where the curve begins and ends: t0 and t1.
+    pub fn range(self) -> (f64, f64)
+        ensures { (result.0 ≡ first_of self) × (result.1 ≡ last_of self) }
+    {
+        match self {
+            Curve::Span { t0, t1, .. } | Curve::Seam { t0, t1, .. } => (t0, t1),
+        }
+    }
+}
+
 // `CompressedEdge`: the two numbers of `vertices`, and `curve`.
 #[derive(Clone, Copy)]
 pub struct Edge {
@@ -44,6 +79,24 @@ pub struct Edge {
 pub enum Vertex {
     Given { x: f64, y: f64, z: f64 },
     Pending { curve: Curve, t: f64 },
+}
+
+// The point of a vertex. A pending one has the point 0, as the definition says: with an Option a clause would ask that none is pending, and none
+// asks it.
+impl From<Vertex> for Xyz {
+    ghost from_gives = { λ v p. p ≡ point_of v };
+
+    #[tactic(auto, unfolding(crate::specs::Points::point_of))]
+    fn from(v: Vertex) -> Xyz {
+        match v {
+            Vertex::Given { x, y, z } => Xyz { x, y, z },
+            Vertex::Pending { .. } => Xyz {
+                x: 0.0,
+                y: 0.0,
+                z: 0.0,
+            },
+        }
+    }
 }
 
 // Why a call is turned away: a case for each row of document 01's table, in its order, with its number there. The lowest number wins, so the
@@ -87,7 +140,8 @@ pub struct Counts {
     pub uses: usize,
 }
 
-// The vertex at which the use `u` of the edge begins.
+// The vertex at which the use `u` of the edge begins. A use is one number here and elsewhere, twice that of its edge, plus 1 when reversed: so
+// it lies in the slices that hosts lend.
 fn front(e: Edge, u: u32) -> u32
     ensures { result ≡ front_of e u }
 {
@@ -96,7 +150,7 @@ fn front(e: Edge, u: u32) -> u32
     if u % 2 == 0 { first } else { second }
 }
 
-// ---- records put together from the cells of a row
+// ---- records put together from the cells of a row. Kinds are numbers there, as hosts lend them.
 
 fn curve_of(kind: u32, number: u32, p: Uv, q: Uv, t0: f64, t1: f64) -> Curve
     ensures { result ≡ curve_of kind number p q t0 t1 }
@@ -132,7 +186,7 @@ fn curve_at(kind: u32, number: u32, floats: &[f64], j: usize) -> Curve
 
 // The edge of row i.
 pub fn edge_at(numbers: &[u32], floats: &[f64], i: usize) -> Edge
-    requires { (i * 4 + 4 ≤ length numbers.now) × (i * 6 + 6 ≤ length floats.now) }
+    requires { HasRow 4 6 numbers.now floats.now i }
     ensures { result ≡ edge_at numbers.now floats.now i }
 {
     let a = i * 4;
@@ -146,7 +200,7 @@ pub fn edge_at(numbers: &[u32], floats: &[f64], i: usize) -> Edge
 
 // The front of a use.
 pub fn front_at(numbers: &[u32], floats: &[f64], u: u32) -> u32
-    requires { (u / 2 * 4 + 4 ≤ length numbers.now) × (u / 2 * 6 + 6 ≤ length floats.now) }
+    requires { HasRow 4 6 numbers.now floats.now (u / 2) }
     ensures { result ≡ front_at (edge_at numbers.now floats.now) u }
 {
     let i = (u / 2) as usize;
@@ -155,17 +209,14 @@ pub fn front_at(numbers: &[u32], floats: &[f64], u: u32) -> u32
 
 // The vertex of row i.
 pub fn vertex_at(numbers: &[u32], floats: &[f64], i: usize) -> Vertex
-    requires { (i * 3 + 3 ≤ length numbers.now) × (i * 7 + 7 ≤ length floats.now) }
+    requires { HasRow 3 7 numbers.now floats.now i }
     ensures { result ≡ vertex_at numbers.now floats.now i }
 {
     let a = i * 3;
     let b = i * 7;
     if numbers[a] == 0 {
-        return Vertex::Given {
-            x: floats[b],
-            y: floats[b + 1],
-            z: floats[b + 2],
-        };
+        let Xyz { x, y, z } = Xyz::read(floats, b);
+        return Vertex::Given { x, y, z };
     }
     let curve = curve_at(numbers[a + 1], numbers[a + 2], floats, b);
     Vertex::Pending {

@@ -8,51 +8,29 @@ ghost use Rattle.correction.specs.Correction.{stretches_cause, ends_cause, neare
 
 use compress::{Checked, Edge, Refusal, Vertex};
 use nearest::Ends;
-use rows::tables::Table;
+use rows::lent::Stretch;
+use rows::tables::{Table, Tables};
 
-// A stretch of a wire, as a host lends it: the first `count` of the uses. Nothing is checked of it here.
-#[derive(Clone, Copy)]
-pub struct Stretch<'a> {
-    pub uses: &'a [u32],
-    pub count: usize,
-}
-
-#[tactic(auto, using(std::proofs::lemmas::Bool::Decides::nat_tests, checks::proofs::Lowest::uses_front), unfolding(crate::specs::Correction::stretches_cause))]
-fn stretches_cause(edges: usize, a: &Stretch, b: &Stretch) -> Checked
-    ensures { cause_of result ≡ stretches_cause edges a.now.uses.now a.now.count b.now.uses.now b.now.count }
+fn stretches_cause(edges: usize, first: &Stretch, second: &Stretch) -> Checked
+    ensures { cause_of result ≡ stretches_cause edges first.now.uses.now first.now.count second.now.uses.now second.now.count }
 {
-    if a.uses.len() < a.count {
-        return Err(Refusal::Malformed);
-    }
-    if b.uses.len() < b.count {
-        return Err(Refusal::Malformed);
-    }
-    if a.count + b.count > 1024 {
-        return Err(Refusal::Malformed);
-    }
-    let x = checks::uses(edges, &a.uses[..a.count]);
-    let y = checks::uses(edges, &b.uses[..b.count]);
-    checks::lower(x, y)
+    let a = first.lent_uses().ok_or(Refusal::Malformed)?;
+    let b = second.lent_uses().ok_or(Refusal::Malformed)?;
+    checks::count(1024, a.len() + b.len())?;
+    checks::lower(checks::uses(edges, a), checks::uses(edges, b))
 }
 
 #[tactic(auto, unfolding(crate::specs::Correction::ends_cause))]
-fn ends_cause(
-    vertices: &Table<Vertex>,
-    edges: &Table<Edge>,
-    first: &Stretch,
-    second: &Stretch,
-    v0: u32,
-) -> Checked
-    ensures { cause_of result ≡ ends_cause vertices.now.numbers.now vertices.now.floats.now
-        edges.now.numbers.now edges.now.floats.now
-        first.now.uses.now second.now.uses.now vertices.now.count edges.now.count first.now.count second.now.count v0 }
+fn ends_cause(tables: &Tables, first: &Stretch, second: &Stretch, v0: u32) -> Checked
+    ensures { let v = tables.now.vertices in
+        let e = tables.now.edges in
+        cause_of result ≡ ends_cause v.numbers.now v.floats.now e.numbers.now e.floats.now
+        first.now.uses.now second.now.uses.now v.count e.count first.now.count second.now.count v0 }
 {
-    let t = points::tables_cause(vertices, edges);
-    let w = stretches_cause(edges.count, first, second);
-    checks::lower(
-        t,
-        checks::lower(checks::vertex_number(vertices.count, v0), w),
-    )
+    let t = points::tables_cause(tables);
+    let w = stretches_cause(tables.edges.count, first, second);
+    let v = checks::vertex_number(tables.vertices.count, v0);
+    checks::lower(t, checks::lower(v, w))
 }
 
 // `nearest_correction`: the nearest ends of two stretches, seen from vertex v0.
@@ -68,8 +46,12 @@ pub fn nearest_correction(
         edges.now.numbers.now edges.now.floats.now
         first.now.uses.now second.now.uses.now vertices.now.count edges.now.count first.now.count second.now.count v0 }
 {
-    ends_cause(vertices, edges, first, second, v0)?;
+    let tables = Tables {
+        vertices: *vertices,
+        edges: *edges,
+    };
+    ends_cause(&tables, first, second, v0)?;
     let first = &first.uses[..first.count];
     let second = &second.uses[..second.count];
-    Ok(nearest::nearest_ends(vertices, edges, first, second, v0))
+    Ok(nearest::nearest_ends(&tables, first, second, v0))
 }

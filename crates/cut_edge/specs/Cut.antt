@@ -19,6 +19,11 @@ pub record Middle (c : Curve) (r : Float) : Type 0 where
   pub exact : r ≡ middle_of c
   pub between : T (sized_of (first_of c)) → T (sized_of (last_of c)) → T (le (first_of c) (last_of c)) → T (le (first_of c) r) × T (le r (last_of c))
 
+-- a curve with another range
+abbrev pub with_range : Curve → Float → Float → Curve
+with_range (Span n a b) t u = Span n t u
+with_range (Seam n p q a b) t u = Seam n p q t u
+
 -- "The old edge keeps t0 to the middle; the new one runs from the middle to t1."
 abbrev pub up_to : Curve → Float → Curve
 up_to (Span n a b) t = Span n a t

@@ -2,7 +2,7 @@
 #![tactic(auto)]
 
 ghost use Rattle.std.specs.Prelude.{◌≡◌};
-ghost use Rattle.cut_edge.specs.Cut.{Middle, up_to, from_on, halves_of, pending_of};
+ghost use Rattle.cut_edge.specs.Cut.{Middle, with_range, halves_of, pending_of};
 
 use compress::{Curve, Edge, Vertex};
 
@@ -13,84 +13,47 @@ pub struct Halves {
     pub new: Edge,
 }
 
+// The curve, from t0 to t1.
+fn with_range(c: Curve, t0: f64, t1: f64) -> Curve
+    ensures { result ≡ with_range c t0 t1 }
+{
+    match c {
+        Curve::Span { number, .. } => Curve::Span { number, t0, t1 },
+        Curve::Seam { surface, p, q, .. } => Curve::Seam {
+            surface,
+            p,
+            q,
+            t0,
+            t1,
+        },
+    }
+}
+
 // The parameter halfway along a curve, which never leaves the curve's range.
 pub fn middle(c: Curve) -> f64
     ensures { Middle c result }
 {
-    match c {
-        Curve::Span { number: _, t0, t1 } => floats::midpoint(t0, t1),
-        Curve::Seam {
-            surface: _,
-            p: _,
-            q: _,
-            t0,
-            t1,
-        } => floats::midpoint(t0, t1),
-    }
+    let (t0, t1) = c.range();
+    floats::midpoint(t0, t1)
 }
 
-// The part of a curve up to t: what `cut` leaves.
-fn up_to(c: Curve, t: f64) -> Curve
-    ensures { result ≡ up_to c t }
-{
-    match c {
-        Curve::Span { number, t0, t1: _ } => Curve::Span { number, t0, t1: t },
-        Curve::Seam {
-            surface,
-            p,
-            q,
-            t0,
-            t1: _,
-        } => Curve::Seam {
-            surface,
-            p,
-            q,
-            t0,
-            t1: t,
-        },
-    }
-}
-
-// The part of a curve from t on: what `cut` gives.
-fn from_on(c: Curve, t: f64) -> Curve
-    ensures { result ≡ from_on c t }
-{
-    match c {
-        Curve::Span { number, t0: _, t1 } => Curve::Span { number, t0: t, t1 },
-        Curve::Seam {
-            surface,
-            p,
-            q,
-            t0: _,
-            t1,
-        } => Curve::Seam {
-            surface,
-            p,
-            q,
-            t0: t,
-            t1,
-        },
-    }
-}
-
-// Both halves of an edge that is cut at t by vertex n.
+// Both halves of an edge that is cut at t by vertex n: the old one has the part of the curve up to t, the new one that from t on.
 fn both_halves(e: Edge, t: f64, n: u32) -> Halves
     ensures { result ≡ halves_of e t n }
 {
-    let c = e.curve;
-    let first = up_to(c, t);
-    let second = from_on(c, t);
-    let old = Edge {
-        front: e.front,
-        back: n,
-        curve: first,
-    };
-    let new = Edge {
-        front: n,
-        back: e.back,
-        curve: second,
-    };
-    Halves { old, new }
+    let (t0, t1) = e.curve.range();
+    Halves {
+        old: Edge {
+            back: n,
+            curve: with_range(e.curve, t0, t),
+            ..e
+        },
+        new: Edge {
+            front: n,
+            curve: with_range(e.curve, t, t1),
+            ..e
+        },
+    }
 }
 
 // `cut_edge`: the lent edge keeps its first half, and the second is handed back.
@@ -102,7 +65,8 @@ fn cut_edge(e: &mut Edge, t: f64, n: u32) -> Edge
     h.new
 }
 
-// `cut_edge` for a caller that holds the edge by value.
+// `cut_edge` for a caller that holds the edge by value. A rule of the project: document 01 names the form of `cut_edge`, over a lent edge and thin
+// above `both_halves`, and each caller cuts by it.
 pub fn cut_held(e: Edge, t: f64, n: u32) -> Halves
     ensures { result ≡ halves_of e t n }
 {

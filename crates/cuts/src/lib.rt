@@ -5,14 +5,14 @@ ghost use Rattle.std.specs.Prelude.{◌≡◌, ◌+◌, ◌*◌, ◌≤◌, ◌<
 ghost use Rattle.compress.specs.declared.Vertex.TheVariants.{Given};
 ghost use Rattle.compress.specs.Refusals.{cause_of};
 ghost use Rattle.compress.specs.Layout.{put};
-ghost use Rattle.compress.specs.Rows.{edge_number_layout, edge_float_layout, vertex_number_layout, vertex_float_layout};
+ghost use Rattle.compress.specs.Rows.{HasRow, edge_number_layout, edge_float_layout, vertex_number_layout, vertex_float_layout};
 ghost use Rattle.rows.specs.Places.{SameTable};
 ghost use Rattle.cuts.specs.Cuts.{cut_at, cut_cause, cuts_cause, halves_at};
 
-use compress::{Checked, Edge, Refusal, Vertex};
+use compress::{Checked, Edge, Refusal, Vertex, Xyz};
 use rows::tables::TableMut;
 
-// A cut: the parameter on the edge's curve, and the point there.
+// A cut: the parameter on the edge's curve, and the point there, as four floats of a row and as a given vertex has its three.
 #[derive(Clone, Copy)]
 pub struct Cut {
     pub t: f64,
@@ -21,9 +21,10 @@ pub struct Cut {
     pub z: f64,
 }
 
-// Cuts, as a host lends them: four floats each, and how many they are said to be.
+// The cuts of one edge, as a host lends them: the edge's number, four floats for each cut, and how many they are said to be.
 #[derive(Clone, Copy)]
-pub struct LentCuts<'a> {
+pub struct EdgeCuts<'a> {
+    pub edge: u32,
     pub floats: &'a [f64],
     pub count: usize,
 }
@@ -35,11 +36,15 @@ fn cut_cause(t0: f64, t1: f64, c: Cut) -> Checked
     ensures { cause_of result ≡ cut_cause t0 t1 c }
 {
     let t = checks::parameter(t0, t1, c.t);
-    let p = checks::point(c.x, c.y, c.z);
+    let p = checks::point(Xyz {
+        x: c.x,
+        y: c.y,
+        z: c.z,
+    });
     checks::lower(t, p)
 }
 
-impl LentCuts<'_> {
+impl EdgeCuts<'_> {
     // The cut of row i: parameter, x, y, z.
     pub fn at(&self, i: usize) -> Cut
         requires { i * 4 + 4 ≤ length self.now.floats.now }
@@ -70,12 +75,20 @@ impl LentCuts<'_> {
 
 // Edge i is cut as the cut says, by the next vertex, and its second half becomes the next edge.
 pub fn put_cut(vertices: &mut TableMut<Vertex>, edges: &mut TableMut<Edge>, i: usize, c: Cut)
-    requires vertex_row { (vertices.old.count < 4096) × (vertices.old.count * 3 + 3 ≤ length vertices.old.numbers.now) × (vertices.old.count * 7 + 7 ≤ length vertices.old.floats.now) }
-    requires edge_row { (i < edges.old.count) × (edges.old.count * 4 + 4 ≤ length edges.old.numbers.now) × (edges.old.count * 6 + 6 ≤ length edges.old.floats.now) }
-    ensures vertex_numbers_after { vertices.new.numbers.now ≡ put vertex_number_layout vertices.old.numbers.now vertices.old.count (Given c.x c.y c.z) }
-    ensures vertex_floats_after { vertices.new.floats.now ≡ put vertex_float_layout vertices.old.floats.now vertices.old.count (Given c.x c.y c.z) }
-    ensures edge_numbers_after { edges.new.numbers.now ≡ put edge_number_layout (put edge_number_layout edges.old.numbers.now i (halves_at edges.old i c.t vertices.old.count).old) edges.old.count (halves_at edges.old i c.t vertices.old.count).new }
-    ensures edge_floats_after { edges.new.floats.now ≡ put edge_float_layout (put edge_float_layout edges.old.floats.now i (halves_at edges.old i c.t vertices.old.count).old) edges.old.count (halves_at edges.old i c.t vertices.old.count).new }
+    requires vertex_row { let v = vertices.old in
+        (v.count < 4096) × HasRow 3 7 v.numbers.now v.floats.now v.count }
+    requires edge_row { let e = edges.old in
+        (i < e.count) × HasRow 4 6 e.numbers.now e.floats.now e.count }
+    ensures vertex_numbers_after { let v = vertices.old in
+        vertices.new.numbers.now ≡ put vertex_number_layout v.numbers.now v.count (Given c.x c.y c.z) }
+    ensures vertex_floats_after { let v = vertices.old in
+        vertices.new.floats.now ≡ put vertex_float_layout v.floats.now v.count (Given c.x c.y c.z) }
+    ensures edge_numbers_after { let e = edges.old in
+        let h = halves_at e i c.t vertices.old.count in
+        edges.new.numbers.now ≡ put edge_number_layout (put edge_number_layout e.numbers.now i h.old) e.count h.new }
+    ensures edge_floats_after { let e = edges.old in
+        let h = halves_at e i c.t vertices.old.count in
+        edges.new.floats.now ≡ put edge_float_layout (put edge_float_layout e.floats.now i h.old) e.count h.new }
     ensures same_vertices { SameTable vertices.old vertices.new }
     ensures same_edges { SameTable edges.old edges.new }
 {

@@ -23,11 +23,14 @@ pub fn input_cause(vertices: &TableMut<Vertex>, edges: &TableMut<Edge>, wires: &
 
 // How many edges of a shell that has none of the causes can be cut, each by a new vertex, until a bound or a slice is full.
 pub fn cut_room(vertices: &TableMut<Vertex>, edges: &TableMut<Edge>) -> usize
-    requires vertices_bound { (vertices.now.count ≤ 4096) × (vertices.now.count * 3 ≤ length vertices.now.numbers.now) × (vertices.now.count * 7 ≤ length vertices.now.floats.now) }
-    requires edges_bound { (edges.now.count ≤ 4096) × (edges.now.count * 4 ≤ length edges.now.numbers.now) × (edges.now.count * 6 ≤ length edges.now.floats.now) }
-    ensures { (k : ℕ) → leb k result ≡ (vertices_fit vertices.now.numbers.now vertices.now.floats.now (vertices.now.count + k) && edges_fit edges.now.numbers.now edges.now.floats.now (edges.now.count + k)) }
+    requires vertices_bound { let v = vertices.now in
+        (v.count ≤ 4096) × (v.count * 3 ≤ length v.numbers.now) × (v.count * 7 ≤ length v.floats.now) }
+    requires edges_bound { let e = edges.now in
+        (e.count ≤ 4096) × (e.count * 4 ≤ length e.numbers.now) × (e.count * 6 ≤ length e.floats.now) }
+    ensures { let v = vertices.now in
+        let e = edges.now in
+        (k : ℕ) → leb k result ≡
+        (vertices_fit v.numbers.now v.floats.now (v.count + k) && edges_fit e.numbers.now e.floats.now (e.count + k)) }
 {
-    let v = (vertices.numbers.len() / 3).min(vertices.floats.len() / 7);
-    let e = (edges.numbers.len() / 4).min(edges.floats.len() / 6);
-    (v.min(4096) - vertices.count).min(e.min(4096) - edges.count)
+    vertices.view().room().min(edges.view().room())
 }

@@ -2,12 +2,13 @@
 -- Assumes nothing.
 use mathlib.Core.Path.{◌≡◌}
 use mathlib.Core.List.{List}
-use Prim.Native.Nat.{ℕ, ◌+◌, ◌*◌, ◌/◌, ◌≤◌, ◌<◌}
+use Prim.Native.Nat.{ℕ, ◌+◌, ◌-◌, ◌*◌, ◌/◌, ◌≤◌, ◌<◌}
 use native.Mathlib.Omega.{arith}
 use mir.Syntax.{w64}
 use mir.Val.{Fits}
 use borrow.Author.Tests.{lt-ltb, le-ltb}
-use lib.ListN.{length, get_or}
+use lib.ListN.{length, get_or, drop, length-drop}
+use lib.Seq.{get_or-take, get_or-drop, length-take-le}
 use Rattle.std.specs.Prelude.{Option, Some, None}
 use Rattle.std.specs.Option.{unwrap_or}
 use Rattle.compress.specs.declared.Edge.{Edge}
@@ -39,6 +40,14 @@ module _ (es : ℕ → Edge) (vs : ℕ → Vertex) (w : List ℕ) (j0 : ℕ) (s 
       → r ≡ nearest_ends es vs (front_at es (get_or w (half_up j0) 0)) (stretch w 1 j0) (stretch w (s.earlier + 1) s.later) → r ≡ turned_divisor es vs w j0
   unfolding turned_divisor divided_by
   divided r h q = rw (← S, lt-ltb _ _ h) q
+
+-- the uses of a stretch are uses of the wire
+pub stretch_known : (m : ℕ) (w : List ℕ) (a b : ℕ) → b ≤ length w → ((k : ℕ) → k < length w → get_or w k 0 / 2 < m)
+    → (k : ℕ) → k < length (stretch w a b) → get_or (stretch w a b) k 0 / 2 < m
+stretch_known m w a b h known k lt =
+    let n : length (stretch w a b) ≡ b - a = length-take-le (b - a) (drop a w) (omega (arith, h, length-drop a w)) in
+    let p : k < b - a = omega (arith, n, lt) in
+    rw (get_or-take (b - a) (drop a w) k 0 p, get_or-drop a w k 0) (known (a + k) (omega (arith, p, h)))
 
 -- the place halfway to j, in a list that j is a place of
 pub half_fits : {j l : ℕ} → 0 < j → j < l → l ≤ 1024 → Fits w64 ((j + 1) / 2 * 4)

@@ -33,6 +33,10 @@ pub record Told {A : Type 0} (s : Said A) (before after : A) (r : ℤ) : Type 0 
 abbrev pub uv_of : Float → Float → Uv
 uv_of u v = record { u = u; v = v }
 
+-- the contents of the six slices of a shell
+abbrev pub slices_of : List ℕ → List Float → List ℕ → List Float → List ℕ → List ℕ → Slices
+slices_of vn vf en ef us ls = record { vn = vn; vf = vf; en = en; ef = ef; us = us; ls = ls }
+
 -- ---- a call that changes a shell, for a host: the closed-edge pass, or one cut
 pub record HostShell (o : Outcome) (before after : Counts) (slices : Slices) (r : ℤ) : Type 0 where
   pub told : Told o.said before after r

@@ -1,9 +1,10 @@
 // The call for hosts that cuts one edge.
 ghost use Rattle.cutting.specs.Contract.{lent_of};
 ghost use Rattle.one_cut.specs.Contract.{cut_outcome};
-ghost use Rattle.healing.specs.Host.{HostShell};
+ghost use Rattle.healing.specs.Host.{HostShell, slices_of};
 
-use cuts::LentCuts;
+use crate::codes;
+use cuts::EdgeCuts;
 use rows::lent::WiresMut;
 use rows::tables::TableMut;
 
@@ -28,7 +29,12 @@ pub extern "C" fn kaugrenna_cut_edge_by_intersections(
     edges_out: &mut usize,
     uses_out: &mut usize,
 ) -> i32
-    ensures { HostShell (cut_outcome (lent_of vertex_numbers.old vertex_floats.old edge_numbers.old edge_floats.old uses.old lengths.old vertices edges wires) edge cuts.now cut_count) (record { vertices = vertices_out.old; edges = edges_out.old; uses = uses_out.old }) (record { vertices = vertices_out.new; edges = edges_out.new; uses = uses_out.new }) (record { vn = vertex_numbers.new; vf = vertex_floats.new; en = edge_numbers.new; ef = edge_floats.new; us = uses.new; ls = lengths.new }) result }
+    ensures { HostShell
+        (cut_outcome (lent_of vertex_numbers.old vertex_floats.old edge_numbers.old edge_floats.old uses.old lengths.old
+        vertices edges wires) edge cuts.now cut_count)
+        (record { vertices = vertices_out.old; edges = edges_out.old; uses = uses_out.old })
+        (record { vertices = vertices_out.new; edges = edges_out.new; uses = uses_out.new })
+        (slices_of vertex_numbers.new vertex_floats.new edge_numbers.new edge_floats.new uses.new lengths.new) result }
 {
     let mut vs = TableMut::new(vertex_numbers, vertex_floats, vertices);
     let mut es = TableMut::new(edge_numbers, edge_floats, edges);
@@ -37,17 +43,11 @@ pub extern "C" fn kaugrenna_cut_edge_by_intersections(
         lengths,
         count: wires,
     };
-    let cuts = LentCuts {
+    let cuts = EdgeCuts {
+        edge,
         floats: cuts,
         count: cut_count,
     };
-    match one_cut::cut_edge_by_intersections(&mut vs, &mut es, &mut ws, edge, &cuts) {
-        Ok(n) => {
-            *vertices_out = n.vertices;
-            *edges_out = n.edges;
-            *uses_out = n.uses;
-            0
-        }
-        Err(r) => host_numbers::refusal_code(r),
-    }
+    let answer = one_cut::cut_edge_by_intersections(&mut vs, &mut es, &mut ws, &cuts);
+    codes::tell_counts(answer, vertices_out, edges_out, uses_out)
 }

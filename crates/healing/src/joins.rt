@@ -2,8 +2,8 @@
 ghost use Rattle.join.specs.Contract.{join_outcome};
 ghost use Rattle.healing.specs.Host.{HostJoin};
 
-use join::OpenWire;
-use rows::lent::WiresMut;
+use crate::codes;
+use rows::lent::{Stretch, WiresMut};
 use rows::tables::Table;
 
 // The two open wires and the first new wire that holds v0 become one wire, which replaces that new wire, in place. 0: done, and the place holds
@@ -25,28 +25,23 @@ pub extern "C" fn kaugrenna_connect_open_boundaries(
     v1: u32,
     uses_out: &mut usize,
 ) -> i32
-    ensures { HostJoin (join_outcome edge_numbers.now edge_floats.now first.now second.now uses.old lengths.old vertices edges first_count second_count wires v0 v1) uses_out.old uses_out.new uses.new lengths.new result }
+    ensures { HostJoin (join_outcome edge_numbers.now edge_floats.now first.now second.now uses.old lengths.old
+        vertices edges first_count second_count wires v0 v1) uses_out.old uses_out.new uses.new lengths.new result }
 {
-    let edges = Table::new(edge_numbers, edge_floats, edges);
-    let first = OpenWire {
+    let es = Table::new(edge_numbers, edge_floats, edges);
+    let first = Stretch {
         uses: first,
         count: first_count,
     };
-    let second = OpenWire {
+    let second = Stretch {
         uses: second,
         count: second_count,
     };
-    let mut wires = WiresMut {
+    let mut ws = WiresMut {
         uses,
         lengths,
         count: wires,
     };
-    match join::connect_open_boundaries(vertices, &edges, &first, &second, &mut wires, v0, v1) {
-        Ok(Some(n)) => {
-            *uses_out = n;
-            0
-        }
-        Ok(None) => -1,
-        Err(r) => host_numbers::refusal_code(r),
-    }
+    let answer = join::connect_open_boundaries(vertices, &es, &first, &second, &mut ws, v0, v1);
+    codes::tell_if(answer, uses_out)
 }

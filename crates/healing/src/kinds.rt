@@ -2,7 +2,9 @@
 ghost use Rattle.wire_kinds.specs.Kinds.{sort_wires};
 ghost use Rattle.healing.specs.Host.{Told, HostSort, uv_of, host_kind};
 
+use crate::codes;
 use compress::Uv;
+use wire_kinds::LentEnds;
 
 // The kind of a wire, from its first point, its last point and its area. 0: done, and `kind_out` holds 0 for Positive, 1 for Negative
 // and 2 for NotClosed. Else the number of the refusal, and `kind_out` is not changed.
@@ -19,13 +21,8 @@ pub extern "C" fn kaugrenna_boundary_type(
 {
     let a = Uv { u: u0, v: v0 };
     let b = Uv { u: u1, v: v1 };
-    match wire_kinds::boundary_type(a, b, area) {
-        Ok(t) => {
-            *kind_out = u32::from(t);
-            0
-        }
-        Err(r) => host_numbers::refusal_code(r),
-    }
+    let answer = wire_kinds::boundary_type(a, b, area);
+    codes::tell(answer.map(u32::from), kind_out)
 }
 
 // The numbers of the two open wires and of the closed ones, both in given order, to the front of their slices. 0: done, and `closed_out`
@@ -40,12 +37,10 @@ pub extern "C" fn kaugrenna_sort_wires(
 ) -> i32
     ensures { HostSort (sort_wires ends.now wires «open».old closed.old) closed_out.old closed_out.new «open».new closed.new result }
 {
-    match wire_kinds::sort_wires(ends, wires, open, closed) {
-        Ok(Some(n)) => {
-            *closed_out = n;
-            0
-        }
-        Ok(None) => -1,
-        Err(r) => host_numbers::refusal_code(r),
-    }
+    let ends = LentEnds {
+        floats: ends,
+        count: wires,
+    };
+    let answer = wire_kinds::sort_wires(&ends, open, closed);
+    codes::tell_if(answer, closed_out)
 }

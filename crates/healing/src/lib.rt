@@ -2,6 +2,7 @@
 // In C each slice and each count is a parameter of its own: here they become tables and wires.
 #![tactic(auto)]
 
+mod codes;
 mod cut;
 mod joins;
 mod kinds;
@@ -11,7 +12,7 @@ mod splits;
 
 ghost use Rattle.cutting.specs.Contract.{lent_of};
 ghost use Rattle.split_closed_edges.specs.Contract.{outcome_of};
-ghost use Rattle.healing.specs.Host.{HostShell};
+ghost use Rattle.healing.specs.Host.{HostShell, slices_of};
 
 use rows::lent::WiresMut;
 use rows::tables::TableMut;
@@ -33,7 +34,12 @@ pub extern "C" fn kaugrenna_split_closed_edges(
     edges_out: &mut usize,
     uses_out: &mut usize,
 ) -> i32
-    ensures { HostShell (outcome_of (lent_of vertex_numbers.old vertex_floats.old edge_numbers.old edge_floats.old uses.old lengths.old vertices edges wires)) (record { vertices = vertices_out.old; edges = edges_out.old; uses = uses_out.old }) (record { vertices = vertices_out.new; edges = edges_out.new; uses = uses_out.new }) (record { vn = vertex_numbers.new; vf = vertex_floats.new; en = edge_numbers.new; ef = edge_floats.new; us = uses.new; ls = lengths.new }) result }
+    ensures { HostShell
+        (outcome_of (lent_of vertex_numbers.old vertex_floats.old edge_numbers.old edge_floats.old uses.old lengths.old
+        vertices edges wires))
+        (record { vertices = vertices_out.old; edges = edges_out.old; uses = uses_out.old })
+        (record { vertices = vertices_out.new; edges = edges_out.new; uses = uses_out.new })
+        (slices_of vertex_numbers.new vertex_floats.new edge_numbers.new edge_floats.new uses.new lengths.new) result }
 {
     let mut vs = TableMut::new(vertex_numbers, vertex_floats, vertices);
     let mut es = TableMut::new(edge_numbers, edge_floats, edges);
@@ -42,13 +48,6 @@ pub extern "C" fn kaugrenna_split_closed_edges(
         lengths,
         count: wires,
     };
-    match split_closed_edges::split_closed_edges(&mut vs, &mut es, &mut ws) {
-        Ok(n) => {
-            *vertices_out = n.vertices;
-            *edges_out = n.edges;
-            *uses_out = n.uses;
-            0
-        }
-        Err(r) => host_numbers::refusal_code(r),
-    }
+    let answer = split_closed_edges::split_closed_edges(&mut vs, &mut es, &mut ws);
+    codes::tell_counts(answer, vertices_out, edges_out, uses_out)
 }

@@ -2,7 +2,9 @@
 ghost use Rattle.host_numbers.specs.Numbers.{host_mindiff, host_copy};
 ghost use Rattle.healing.specs.Host.{Told, uv_of};
 
+use crate::codes;
 use compress::Uv;
+use host_numbers::LentPeriod;
 
 // u, moved by whole periods to where it is nearest to u0. 0: done, and `out` holds the number.
 // Else the number of the refusal, and `out` is not changed.
@@ -16,13 +18,11 @@ pub extern "C" fn kaugrenna_get_mindiff(
 ) -> i32
     ensures { Told (host_mindiff u u0 period_kind period) out.old out.new result }
 {
-    match host_numbers::unwrap_asked(u, u0, period_kind, period) {
-        Ok(x) => {
-            *out = x;
-            0
-        }
-        Err(r) => host_numbers::refusal_code(r),
-    }
+    let period = LentPeriod {
+        kind: period_kind,
+        number: period,
+    };
+    codes::tell(host_numbers::unwrap_asked(u, u0, period), out)
 }
 
 // Of the copies of q, moved by whole periods, the first that is nearest to p. 0: done, and the two places hold the copy.
@@ -45,12 +45,18 @@ pub extern "C" fn kaugrenna_nearest_copy(
 {
     let p = Uv { u: pu, v: pv };
     let q = Uv { u: qu, v: qv };
-    match host_numbers::copy_asked(p, q, u_kind, u_period, v_kind, v_period) {
-        Ok(c) => {
-            *u_out = c.u;
-            *v_out = c.v;
-            0
-        }
-        Err(r) => host_numbers::refusal_code(r),
+    let u = LentPeriod {
+        kind: u_kind,
+        number: u_period,
+    };
+    let v = LentPeriod {
+        kind: v_kind,
+        number: v_period,
+    };
+    let answer = host_numbers::copy_asked(p, q, u, v);
+    if let Ok(c) = answer {
+        *u_out = c.u;
+        *v_out = c.v;
     }
+    codes::code_of(answer)
 }

@@ -1,29 +1,11 @@
 // The calls for hosts on wires and vertices: nearest ends, and the non-simple search.
-ghost use Rattle.compress.specs.Said.{said_if};
 ghost use Rattle.correction.specs.Correction.{nearest_correction};
 ghost use Rattle.non_simple.specs.Divisor.{find_non_simple};
 ghost use Rattle.healing.specs.Host.{Told};
 
-use compress::Refusal;
-use correction::Stretch;
-use nearest::Ends;
-use rows::lent::Wires;
+use crate::codes;
+use rows::lent::{Stretch, Wires};
 use rows::tables::Table;
-
-// What a host is told of two vertices. 0: done, and the two places hold them. -1: there are none. Else the number of the refusal.
-fn tell(answer: Result<Option<Ends>, Refusal>, v0_out: &mut u32, v1_out: &mut u32) -> i32
-    ensures { Told (said_if (λ e. e) answer) (record { v0 = v0_out.old; v1 = v1_out.old }) (record { v0 = v0_out.new; v1 = v1_out.new }) result }
-{
-    match answer {
-        Ok(Some(ends)) => {
-            *v0_out = ends.v0;
-            *v1_out = ends.v1;
-            0
-        }
-        Ok(None) => -1,
-        Err(r) => host_numbers::refusal_code(r),
-    }
-}
 
 // From v0 the nearest front of the second stretch, from there the nearest front of the first. 0: done, and the two places hold a vertex of the
 // first stretch and one of the second. -1: a stretch is empty. Else the number of the refusal. After -1 and a refusal nothing lent is changed.
@@ -43,7 +25,9 @@ pub extern "C" fn kaugrenna_nearest_correction(
     v0_out: &mut u32,
     v1_out: &mut u32,
 ) -> i32
-    ensures { Told (nearest_correction vertex_numbers.now vertex_floats.now edge_numbers.now edge_floats.now first.now second.now vertices edges first_count second_count v0) (record { v0 = v0_out.old; v1 = v1_out.old }) (record { v0 = v0_out.new; v1 = v1_out.new }) result }
+    ensures { Told (nearest_correction vertex_numbers.now vertex_floats.now edge_numbers.now edge_floats.now
+        first.now second.now vertices edges first_count second_count v0)
+        (record { v0 = v0_out.old; v1 = v1_out.old }) (record { v0 = v0_out.new; v1 = v1_out.new }) result }
 {
     let vertices = Table::new(vertex_numbers, vertex_floats, vertices);
     let edges = Table::new(edge_numbers, edge_floats, edges);
@@ -56,7 +40,7 @@ pub extern "C" fn kaugrenna_nearest_correction(
         count: second_count,
     };
     let answer = correction::nearest_correction(&vertices, &edges, &first, &second, v0);
-    tell(answer, v0_out, v1_out)
+    codes::tell_ends(answer, v0_out, v1_out)
 }
 
 // Of the wires in order the first that uses an edge twice and can be divided. 0: done, and the two places hold the vertices between which it
@@ -75,7 +59,9 @@ pub extern "C" fn kaugrenna_find_non_simple_wire_divisor(
     v0_out: &mut u32,
     v1_out: &mut u32,
 ) -> i32
-    ensures { Told (find_non_simple vertex_numbers.now vertex_floats.now edge_numbers.now edge_floats.now uses.now lengths.now vertices edges wires) (record { v0 = v0_out.old; v1 = v1_out.old }) (record { v0 = v0_out.new; v1 = v1_out.new }) result }
+    ensures { Told (find_non_simple vertex_numbers.now vertex_floats.now edge_numbers.now edge_floats.now
+        uses.now lengths.now vertices edges wires)
+        (record { v0 = v0_out.old; v1 = v1_out.old }) (record { v0 = v0_out.new; v1 = v1_out.new }) result }
 {
     let vertices = Table::new(vertex_numbers, vertex_floats, vertices);
     let edges = Table::new(edge_numbers, edge_floats, edges);
@@ -85,5 +71,5 @@ pub extern "C" fn kaugrenna_find_non_simple_wire_divisor(
         count: wires,
     };
     let answer = non_simple::find_non_simple_wire_divisor(&vertices, &edges, &wires);
-    tell(answer, v0_out, v1_out)
+    codes::tell_ends(answer, v0_out, v1_out)
 }

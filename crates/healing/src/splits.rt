@@ -3,6 +3,7 @@ ghost use Rattle.split_causes.specs.Causes.{lent_split};
 ghost use Rattle.split.specs.Contract.{split_outcome};
 ghost use Rattle.healing.specs.Host.{HostBoundaries};
 
+use crate::codes;
 use rows::lent::Wires;
 use rows::tables::TableMut;
 use seams::Divisor;
@@ -55,15 +56,13 @@ pub extern "C" fn kaugrenna_split_boundaries_by_divisor(
         points,
         count: divisor_count,
     };
-    match split::split_boundaries_by_divisor(
+    let answer = split::split_boundaries_by_divisor(
         vertices, &mut table, &face, &rebuilt, &divisor, uses, lengths, surface,
-    ) {
-        Ok(made) => {
-            *wires_out = made.wires;
-            *uses_out = made.uses;
-            *edges_out = made.edges;
-            0
-        }
-        Err(refusal) => host_numbers::refusal_code(refusal),
+    );
+    if let Ok(made) = answer {
+        *wires_out = made.wires;
+        *uses_out = made.uses;
+        *edges_out = made.edges;
     }
+    codes::code_of(answer)
 }

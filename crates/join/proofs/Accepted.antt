@@ -20,7 +20,7 @@ use Rattle.compress.specs.declared.Edge.{Edge}
 use Rattle.rows.specs.Held.{wires_held}
 use Rattle.rows.specs.declared.tables.Table.{Table}
 use Rattle.rows.specs.declared.lent.WiresMut.{WiresMut}
-use Rattle.join.specs.declared.OpenWire.{OpenWire}
+use Rattle.rows.specs.declared.lent.Stretch.{Stretch}
 use Rattle.compress.specs.Refusals.{refusal_number}
 use Rattle.compress.proofs.Refused.{said_refused, said_checked}
 use Rattle.join.specs.Contract.{join_wires_cause, empty_cause, join_cause, join_outcome}
@@ -37,7 +37,7 @@ uses_rows v en ef e us n A h q k lt =
     let u = uses_in e us n k q g in
     rw (get_or-take n us k 0 g) (omega (arith, A.numbers), omega (arith, A.floats))
 
-module _ (edges : Table Edge) (first second : OpenWire) (w : WiresMut) (v v0 v1 : ℕ) where
+module _ (edges : Table Edge) (first second : Stretch) (w : WiresMut) (v v0 v1 : ℕ) where
   abbrev en : List ℕ
   en = edges.numbers.now
 

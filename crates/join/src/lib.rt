@@ -3,8 +3,7 @@
 
 ghost use Rattle.std.specs.Prelude.{◌≡◌, ◌≤◌, ◌<◌, length};
 ghost use Rattle.compress.specs.Refusals.{cause_of};
-ghost use Rattle.compress.specs.Rows.{edge_at};
-ghost use Rattle.rows.specs.Held.{wires_held};
+ghost use Rattle.rows.specs.Held.{wires_held, edges_in};
 ghost use Rattle.rows.specs.Places.{SameWires};
 ghost use Rattle.joined.specs.Outcome.{left, left_by};
 ghost use Rattle.joined.specs.Steps.{Joinable};
@@ -12,104 +11,80 @@ ghost use Rattle.join.specs.Join.{connected_at, connected};
 ghost use Rattle.join.specs.Contract.{join_wires_cause, empty_cause, join_cause, join_outcome};
 
 use compress::{Checked, Edge, Refusal};
-use laying::TurnedWire;
-use rows::lent::{Wires, WiresMut};
+use laying::Joint;
+use laying::turned::TurnedWire;
+use rows::lent::{Stretch, Wires, WiresMut};
 use rows::tables::Table;
 
-// An open wire, as a host lends it: the front of a slice, of so many uses. Nothing is checked of it here.
-#[derive(Clone, Copy)]
-pub struct OpenWire<'a> {
-    pub uses: &'a [u32],
-    pub count: usize,
-}
-
-// By index, the place of v0 in the open wire that holds it: where it is not 0, the two open wires change places.
+// By index, the place of v0 in the open wire that holds it: where it is not 0, the two open wires change places. The Rust's number i says which of
+// the two holds it, 0 or 1, and how far the first is turned: one number for both, as the definition has it, since an enum would be made a number again.
 fn connect_at(
-    edges: &Table<Edge>,
+    joint: &Joint,
     first: &[u32],
     second: &[u32],
     wires: &mut WiresMut,
-    v0: u32,
-    v1: u32,
     i: usize,
     index: usize,
 ) -> Result<Option<usize>, Refusal>
-    requires joinable { Joinable edges.now first.now second.now wires.old }
+    requires joinable { Joinable joint.now.edges first.now second.now wires.old }
     requires i_in_bounds { (i ≤ length first.now) × (i ≤ length second.now) }
-    ensures outcome { let es = edge_at edges.now.numbers.now edges.now.floats.now in
-        left result wires.new ≡ left_by wires.old (connected_at es v0 v1 first.now second.now (wires_held wires.old) i index) }
+    ensures outcome { let j = joint.now in
+        let es = edges_in j.edges in
+        left result wires.new ≡ left_by wires.old (connected_at es j.v0 j.v1 first.now second.now (wires_held wires.old) i index) }
     ensures same { SameWires wires.old wires.new }
 {
     if index == 0 {
         let first = TurnedWire { wire: first, by: i };
-        return joined::join_turned(edges, &first, second, wires, v0, v1);
+        return joined::join_turned(joint, &first, second, wires);
     }
     let second = TurnedWire {
         wire: second,
         by: i,
     };
-    joined::join_turned(edges, &second, first, wires, v0, v1)
+    joined::join_turned(joint, &second, first, wires)
 }
 
 // The join of an input that has no cause.
 fn connect_checked(
-    edges: &Table<Edge>,
+    joint: &Joint,
     first: &[u32],
     second: &[u32],
     wires: &mut WiresMut,
-    v0: u32,
-    v1: u32,
 ) -> Result<Option<usize>, Refusal>
-    requires joinable { Joinable edges.now first.now second.now wires.old }
+    requires joinable { Joinable joint.now.edges first.now second.now wires.old }
     requires not_empty { (0 < length first.now) × (0 < length second.now) }
-    ensures outcome { let es = edge_at edges.now.numbers.now edges.now.floats.now in
-        left result wires.new ≡ left_by wires.old (connected es v0 v1 first.now second.now (wires_held wires.old)) }
+    ensures outcome { let j = joint.now in
+        let es = edges_in j.edges in
+        left result wires.new ≡ left_by wires.old (connected es j.v0 j.v1 first.now second.now (wires_held wires.old)) }
     ensures same { SameWires wires.old wires.new }
 {
-    if let Some(index) = laying::find_index(edges, first, v0) {
-        return connect_at(edges, first, second, wires, v0, v1, 0, index);
+    if let Some(index) = laying::find_index(&joint.edges, first, joint.v0) {
+        return connect_at(joint, first, second, wires, 0, index);
     }
-    if let Some(index) = laying::find_index(edges, second, v0) {
-        return connect_at(edges, first, second, wires, v0, v1, 1, index);
+    if let Some(index) = laying::find_index(&joint.edges, second, joint.v0) {
+        return connect_at(joint, first, second, wires, 1, index);
     }
     Ok(None)
 }
 
-// Causes 1 and 3 of all wires of a join.
-fn join_wires_cause(edges: usize, first: &OpenWire, second: &OpenWire, wires: &Wires) -> Checked
+// Causes 1 and 3 of all wires of a join. The two open wires are two parameters here and elsewhere, as the call has them: a pair would be taken apart at
+// each use.
+fn join_wires_cause(edges: usize, first: &Stretch, second: &Stretch, wires: &Wires) -> Checked
     ensures { let a = first.now in
         let b = second.now in
         let w = wires.now in
         cause_of result ≡ join_wires_cause edges a.uses.now a.count b.uses.now b.count w.uses.now w.lengths.now w.count }
 {
-    if wires.count > 62 {
-        return Err(Refusal::Malformed);
-    }
-    if wires.lengths.len() < wires.count {
-        return Err(Refusal::Malformed);
-    }
-    if first.uses.len() < first.count {
-        return Err(Refusal::Malformed);
-    }
-    if second.uses.len() < second.count {
-        return Err(Refusal::Malformed);
-    }
-    if first.count > 1024 {
-        return Err(Refusal::Malformed);
-    }
-    if second.count > 1024 - first.count {
-        return Err(Refusal::Malformed);
-    }
-    let sum = checks::total_uses(&wires.lengths[..wires.count]);
-    if sum > 1024 - first.count - second.count {
-        return Err(Refusal::Malformed);
-    }
-    if wires.uses.len() < sum {
-        return Err(Refusal::Malformed);
-    }
-    let a = checks::uses(edges, &first.uses[..first.count]);
-    let b = checks::uses(edges, &second.uses[..second.count]);
-    checks::lower(a, checks::lower(b, checks::uses(edges, &wires.uses[..sum])))
+    let a = first.lent_uses().ok_or(Refusal::Malformed)?;
+    let b = second.lent_uses().ok_or(Refusal::Malformed)?;
+    let new = wires.lent_uses().ok_or(Refusal::Malformed)?;
+    checks::count(62, wires.count)?;
+    checks::count(1024, a.len() + b.len() + new.len())?;
+    let of_new = checks::uses(edges, new);
+    checks::lower(
+        checks::uses(edges, a),
+        checks::lower(checks::uses(edges, b), of_new),
+    )
 }
 
 fn empty_cause(n: usize, m: usize) -> Checked
@@ -124,8 +99,8 @@ fn empty_cause(n: usize, m: usize) -> Checked
 fn join_cause(
     vertices: usize,
     edges: &Table<Edge>,
-    first: &OpenWire,
-    second: &OpenWire,
+    first: &Stretch,
+    second: &Stretch,
     wires: &Wires,
     v0: u32,
     v1: u32,
@@ -154,8 +129,8 @@ fn join_cause(
 pub fn connect_open_boundaries(
     vertices: usize,
     edges: &Table<Edge>,
-    first: &OpenWire,
-    second: &OpenWire,
+    first: &Stretch,
+    second: &Stretch,
     wires: &mut WiresMut,
     v0: u32,
     v1: u32,
@@ -171,5 +146,10 @@ pub fn connect_open_boundaries(
     join_cause(vertices, edges, first, second, &wires.view(), v0, v1)?;
     let n = first.count;
     let m = second.count;
-    connect_checked(edges, &first.uses[..n], &second.uses[..m], wires, v0, v1)
+    let joint = Joint {
+        edges: *edges,
+        v0,
+        v1,
+    };
+    connect_checked(&joint, &first.uses[..n], &second.uses[..m], wires)
 }

@@ -9,15 +9,15 @@ use Rattle.compress.specs.declared.Edge.{Edge}
 use Rattle.compress.specs.Rows.{edge_at}
 use Rattle.compress.specs.Said.{Said, result, none, on_result}
 use Rattle.compress.specs.Wires.{total}
-use Rattle.compress.proofs.Wires.{part_size}
+use Rattle.compress.proofs.Wires.{part_size, wire_count}
 use Rattle.rows.specs.Held.{wires_held}
 use Rattle.rows.specs.declared.tables.Table.{Table}
 use Rattle.rows.specs.declared.lent.WiresMut.{WiresMut}
 use Rattle.wires.specs.Turn.{turned}
 use Rattle.laying.specs.Places.{index_of, wire_index_of, place_in, holder_in, closed_by}
 use Rattle.laying.specs.Steps.{Layable}
-use Rattle.laying.specs.declared.TurnedWire.{TurnedWire}
-use Rattle.laying.proofs.Places.{part_rows, found_is, wire_count}
+use Rattle.laying.specs.declared.turned.TurnedWire.{TurnedWire}
+use Rattle.laying.proofs.Places.{part_rows, found_is}
 use Rattle.joined.specs.Joined.{joined_at, joined_to}
 use Rattle.joined.specs.Outcome.{left_by}
 use Rattle.joined.specs.Steps.{Joinable}

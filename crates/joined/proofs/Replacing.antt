@@ -11,7 +11,7 @@ use lib.Seq.{take-add, drop-drop, take-take, length-take-le, take-set-lt, drop-s
 use Rattle.compress.specs.declared.Refusal.TheVariants.{NoRoom}
 use Rattle.compress.specs.Shell.{uses_fit}
 use Rattle.compress.specs.Wires.{total, wires_of, uses_of, lengths_of, over}
-use Rattle.compress.proofs.Wires.{wire_in}
+use Rattle.compress.proofs.Wires.{wire_in, uses_all}
 use Rattle.std.specs.Prelude.{Ok, Err}
 use Rattle.joined.specs.Outcome.{leaves_stored, stored_in}
 use Rattle.joined.specs.Steps.{replaced_in}
@@ -24,11 +24,6 @@ total_split [] zero = refl
 total_split [] (suc w) = refl
 total_split (m ∷ L) zero = omega arith
 total_split (m ∷ L) (suc w) = omega (arith, total_split L w)
-
-uses_all : (us L : List ℕ) → uses_of (wires_of us L) ≡ take (total L) us
-unfolding wires_of uses_of total
-uses_all us [] = refl
-uses_all us (m ∷ L) = rw (uses_all (drop m us) L) (sym (take-add m (total L) us))
 
 lengths_all : (us L : List ℕ) → total L ≤ length us → lengths_of (wires_of us L) ≡ L
 unfolding wires_of lengths_of total

@@ -1,19 +1,22 @@
--- Where the loops of `find_index` and `find_wire` stand: what is passed, with what is found in what is left, is what is found in all.
+-- What the searches of `find_index` and `find_wire` answer: the first place, or none.
 -- Assumes nothing.
-use mathlib.Core.Path.{◌≡◌, refl, ap, sym, ◌∙◌}
+use mathlib.Core.Path.{◌≡◌, refl, ap, sym}
 use mathlib.Core.Bool.{Bool, true, false}
 use mathlib.Core.List.{List, [], ◌∷◌}
-use Prim.Native.Nat.{ℕ, zero, suc, ◌+◌, ◌-◌, ◌≤◌, ◌<◌}
+use Prim.Native.Nat.{ℕ, zero, suc, ◌+◌, ◌-◌, ◌*◌, ◌/◌, ◌≤◌, ◌<◌}
 use native.Mathlib.Omega.{arith}
 use lib.Dec.{eqb, ltb}
 use lib.ListN.{length, get_or, take, drop}
-use lib.Seq.{drop-length, get_or-take, length-take-le}
+use lib.Seq.{get_or-take, length-take-le}
 use lib.Ieee.{Float}
 use borrow.Author.Tests.{eq-eqb, ne_eqb, lt-ltb, le-ltb, ltb-true, ltb-false}
 use Rattle.compress.specs.declared.Edge.{Edge}
 use Rattle.compress.specs.Records.{pick, front_at}
-use Rattle.compress.specs.Wires.{total, wires_of}
-use Rattle.compress.proofs.Wires.{wire_in, wires_first, wire_size, part_at, part_size}
+use Rattle.compress.specs.Wires.{total}
+use Rattle.compress.proofs.Wires.{part_at, part_size}
+use Rattle.rows.specs.declared.lent.Wires.{Wires}
+use Rattle.rows.specs.Held.{wires_in}
+use Rattle.rows.proofs.Each.{all_wires, holds_at}
 use Rattle.std.specs.Prelude.{Option, Some, None}
 use Rattle.std.specs.List.{AllWithin, HoldsAt}
 use Rattle.std.specs.Option.{MatchOption, is_some, unwrap_or}
@@ -100,65 +103,65 @@ place_or_end es v w None q = omega (arith, found_not (length w) (index_of es v w
 place_or_end es v w (Some j) q = omega (arith, found_is (length w) (index_of es v w) q)
 
 -- ---- `find_wire`
-pub length_wires : (us L : List ℕ) → length (wires_of us L) ≡ length L
-unfolding wires_of
-length_wires us [] = refl
-length_wires us (m ∷ L) = ap suc (length_wires (drop m us) L)
+-- the wire holds v as a front, or has no use that does
+abbrev pub Holds : (ℕ → Edge) → ℕ → List ℕ → Type 0
+Holds es v w = index_of es v w < length w
 
-pub wire_count : (us ls : List ℕ) (n : ℕ) → n ≤ length ls → length (wires_of us (take n ls)) ≡ n
-wire_count us ls n h = length_wires us (take n ls) ∙ length-take-le n ls h
+abbrev pub Lacks : (ℕ → Edge) → ℕ → List ℕ → Type 0
+Lacks es v w = length w ≤ index_of es v w
 
-pub record Scanning (es : ℕ → Edge) (v : ℕ) (us ls : List ℕ) (n w from : ℕ) : Type 0 where
-  pub w_le : w ≤ n
-  pub from_is : from + total (drop w (take n ls)) ≡ total (take n ls)
-  pub is : w + wire_index_of es v (wires_of (drop from us) (drop w (take n ls))) ≡ wire_index_of es v (wires_of us (take n ls))
+-- what a search of one wire tells
+pub told_holds : (es : ℕ → Edge) (v : ℕ) (w : List ℕ) (r : Option ℕ) → found r ≡ place_in es v w → is_some r ≡ true → Holds es v w
+told_holds es v w None q h = differ h
+told_holds es v w (Some x) q h = (found_is (length w) (index_of es v w) q).1
 
-module _ (es : ℕ → Edge) (v : ℕ) (us ls : List ℕ) (n : ℕ) (L : Lying us ls n) where
-  pub scanning_start : Scanning es v us ls n 0 0
-  scanning_start = record { w_le = omega arith; from_is = omega arith; is = omega arith }
+pub told_lacks : (es : ℕ → Edge) (v : ℕ) (w : List ℕ) (r : Option ℕ) → found r ≡ place_in es v w → is_some r ≡ false → Lacks es v w
+told_lacks es v w (Some x) q h = differ (sym h)
+told_lacks es v w None q h = found_not (length w) (index_of es v w) q
 
-  module _ (w from : ℕ) (S : Scanning es v us ls n w from) (lt : w < n) where
-    -- wire w, as it is lent on
-    abbrev pub wire_here : List ℕ
-    wire_here = take (from + get_or ls w 0 - from) (drop from us)
+-- a wire ahead of others is the first that holds v, or one place more is counted
+next_wire : (es : ℕ → Edge) (v : ℕ) (w : List ℕ) (ws : List (List ℕ))
+    → wire_index_of es v (w ∷ ws) ≡ pick (ltb (index_of es v w) (length w)) 0 (wire_index_of es v ws + 1)
+unfolding wire_index_of
+next_wire es v w ws = refl
 
-    pub lies : (from + get_or ls w 0 + total (drop (w + 1) (take n ls)) ≡ total (take n ls)) × (length wire_here ≡ get_or ls w 0)
-    lies =
-        let i = wire_in us ls n w from L.lengths lt S.from_is in
-        (i, wire_size us ls n w from L.lengths lt (omega (arith, L.uses)))
+-- the first wire that holds v stands at the place i
+wire_first : (es : ℕ → Edge) (v : ℕ) (ws : List (List ℕ)) (i : ℕ) → i < length ws → Holds es v (get_or ws i [])
+    → ((k : ℕ) → k < i → Lacks es v (get_or ws k [])) → wire_index_of es v ws ≡ i
+wire_first es v [] i h e n = absurd (omega arith)
+wire_first es v (w ∷ ws) zero h e n = rw (next_wire es v w ws, lt-ltb (index_of es v w) (length w) e) refl
+wire_first es v (w ∷ ws) (suc i) h e n =
+    let r : wire_index_of es v ws ≡ i = wire_first es v ws i (omega arith) e (λ k p. n (suc k) (omega arith)) in
+    rw (next_wire es v w ws, le-ltb (index_of es v w) (length w) (n 0 (omega arith)), r) (omega arith)
 
-    pub here_rows : (en : List ℕ) (ef : List Float) → Readable en ef (take (total (take n ls)) us) → Readable en ef wire_here
-    here_rows en ef r = part_rows en ef us (total (take n ls)) from (from + get_or ls w 0) (omega (arith, lies.0)) L.uses r
+-- no wire does
+wire_past : (es : ℕ → Edge) (v : ℕ) (ws : List (List ℕ)) → ((k : ℕ) → k < length ws → Lacks es v (get_or ws k [])) → wire_index_of es v ws ≡ length ws
+unfolding wire_index_of
+wire_past es v [] n = refl
+wire_past es v (w ∷ ws) n =
+    let r : wire_index_of es v ws ≡ length ws = wire_past es v ws (λ k p. n (suc k) (omega arith)) in
+    rw (next_wire es v w ws, le-ltb (index_of es v w) (length w) (n 0 (omega arith)), r) (omega arith)
 
-    next_wire : wire_index_of es v (wires_of (drop from us) (drop w (take n ls)))
-        ≡ pick (ltb (index_of es v wire_here) (length wire_here)) 0 (wire_index_of es v (wires_of (drop (from + get_or ls w 0) us) (drop (w + 1) (take n ls))) + 1)
-    unfolding wire_index_of
-    next_wire = rw (wires_first us ls n w from L.lengths lt)
+-- what a search for the first wire that holds v answers
+module _ (es : ℕ → Edge) (v : ℕ) (ws : List (List ℕ)) where
+  pub holder_found : (r : Option ℕ) → MatchOption r (AllWithin (Lacks es v) ws 0 (length ws))
+      (λ i. (i < length ws) × HoldsAt (Holds es v) ws i × AllWithin (Lacks es v) ws 0 i) → found r ≡ holder_in es v ws
+  holder_found None h =
+      let r : wire_index_of es v ws ≡ length ws = wire_past es v ws (λ k p. h k [] (omega arith) p) in
+      rw (le-ltb (wire_index_of es v ws) (length ws) (omega (arith, r)))
+  holder_found (Some i) h =
+      let r : wire_index_of es v ws ≡ i = wire_first es v ws i h.0 (h.1 []) (λ k p. h.2 k [] (omega arith) p) in
+      rw (r, lt-ltb i (length ws) h.0)
 
-    -- it has v as a front
-    pub scanning_found : (r : Option ℕ) → found r ≡ place_in es v wire_here → is_some r ≡ true → found (Some w) ≡ holder_in es v (wires_of us (take n ls))
-    scanning_found None q h = differ h
-    scanning_found (Some x) q h =
-        let g = found_is (length wire_here) (index_of es v wire_here) q in
-        let z : wire_index_of es v (wires_of (drop from us) (drop w (take n ls))) ≡ 0 = rw (lt-ltb (index_of es v wire_here) (length wire_here) g.1) at next_wire in
-        let e : wire_index_of es v (wires_of us (take n ls)) ≡ w = omega (arith, S.is, z) in
-        rw (e, lt-ltb w (length (wires_of us (take n ls))) (omega (arith, wire_count us ls n L.lengths)))
+-- ---- every wire can be read
+abbrev pub RowLent : List ℕ → List Float → ℕ → Type 0
+RowLent en ef u = (u / 2 * 4 + 4 ≤ length en) × (u / 2 * 6 + 6 ≤ length ef)
 
-    -- it has not
-    pub scanning_turn : (r : Option ℕ) → found r ≡ place_in es v wire_here → is_some r ≡ false → Scanning es v us ls n (w + 1) (from + get_or ls w 0)
-    scanning_turn (Some x) q h = differ (sym h)
-    scanning_turn None q h =
-        let g : length wire_here ≤ index_of es v wire_here = found_not (length wire_here) (index_of es v wire_here) q in
-        let z : wire_index_of es v (wires_of (drop from us) (drop w (take n ls))) ≡ wire_index_of es v (wires_of (drop (from + get_or ls w 0) us) (drop (w + 1) (take n ls))) + 1
-        = rw (le-ltb (index_of es v wire_here) (length wire_here) g) at next_wire in
-        record { w_le = omega arith; from_is = lies.0; is = omega (arith, S.is, z) }
-
-  pub scanning_done : (w from : ℕ) → Scanning es v us ls n w from → n ≤ w → found None ≡ holder_in es v (wires_of us (take n ls))
-  unfolding wire_index_of wires_of
-  scanning_done w from S h =
-      let l : length (take n ls) ≡ n = length-take-le n ls L.lengths in
-      let p : w ≡ length (take n ls) = omega (arith, S.w_le) in
-      let d : drop w (take n ls) ≡ [] = rw p (drop-length (take n ls)) in
-      let z : wire_index_of es v (wires_of (drop from us) (drop w (take n ls))) ≡ 0 = rw d in
-      let c : length (wires_of us (take n ls)) ≡ n = wire_count us ls n L.lengths in
-      rw (le-ltb (wire_index_of es v (wires_of us (take n ls))) (length (wires_of us (take n ls))) (omega (arith, S.is, z, c)))
+pub wire_rows : (en : List ℕ) (ef : List Float) (w : Wires) → Lying w.uses.now w.lengths.now w.count
+    → Readable en ef (take (total (take w.count w.lengths.now)) w.uses.now) → (k : ℕ) → k < length (wires_in w) → Readable en ef (get_or (wires_in w) k [])
+wire_rows en ef w L r k h =
+    let t = total (take w.count w.lengths.now) in
+    let size : length (take t w.uses.now) ≡ t = length-take-le t w.uses.now L.uses in
+    let all = all_wires (RowLent en ef) w.uses.now (take w.count w.lengths.now) 1024 L.uses L.few
+    (λ j p. rw (get_or-take t w.uses.now j 0 p) at (r j (omega arith))) in
+    (holds_at _ (wires_in w) k h all).1

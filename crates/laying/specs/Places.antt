@@ -4,7 +4,7 @@ use Rattle.compress.specs.declared.Edge.{Edge}
 use Rattle.compress.specs.Records.{pick, front_at}
 use Rattle.compress.specs.Said.{Said, result, none, on_result}
 use Rattle.wires.specs.Turn.{turned}
-use Rattle.laying.specs.declared.TurnedWire.{TurnedWire}
+use Rattle.laying.specs.declared.turned.TurnedWire.{TurnedWire}
 
 -- how many uses stand before the first whose front is v: all of them, where v is no front
 unfoldable pub index_of : (ℕ → Edge) → ℕ → List ℕ → ℕ

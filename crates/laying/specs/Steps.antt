@@ -2,7 +2,7 @@
 use Rattle.std.specs.Prelude.{List, ℕ, ◌+◌, ◌*◌, ◌/◌, ◌≤◌, ◌<◌, Option, Some, None, length, get_or, take, Float}
 use Rattle.compress.specs.Said.{Said, result, none}
 use Rattle.compress.specs.Wires.{total}
-use Rattle.laying.specs.declared.TurnedWire.{TurnedWire}
+use Rattle.laying.specs.declared.turned.TurnedWire.{TurnedWire}
 
 -- every use of a wire is of an edge whose row was lent
 abbrev pub Readable : List ℕ → List Float → List ℕ → Type 0

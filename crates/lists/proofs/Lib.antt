@@ -2,3 +2,4 @@
 pub mod Counts
 pub mod Members
 pub mod Chains
+pub mod Entries

@@ -1,14 +1,29 @@
 -- The lists of the vertices, in two tables. Definitions only.
 -- Entry v of head is 0 where vertex v is absent, 1 where it is present and its list is empty, and p + 2 where the last use of its list is the one
 -- at place p. Entry p of next is 0 where the use at place p is the first of its list, and q + 1 where the one at place q stands before it.
-use Rattle.std.specs.Prelude.{ℕ, zero, suc, ◌+◌, ◌-◌, ◌≤◌, ◌<◌, ◌≡◌, ◌≢◌, List, [], ◌∷◌, ◌++◌, length, get_or, set}
+use Rattle.std.specs.Prelude.{ℕ, zero, suc, ◌+◌, ◌-◌, ◌≤◌, ◌<◌, ◌≡◌, ◌≢◌, Option, Some, None, List, [], ◌∷◌, ◌++◌, length, get_or, set}
 use Rattle.lists.specs.Members.{at}
+
+-- What an entry of next says: no place, or the one that stands before.
+abbrev pub place_of : ℕ → Option ℕ
+place_of zero = None
+place_of (suc q) = Some q
+
+-- What an entry of head says: no list; or a list, with the place of its last use, if it has a use.
+abbrev pub list_of : ℕ → Option (Option ℕ)
+list_of zero = None
+list_of (suc m) = Some (place_of m)
 
 -- From h the chain of v goes through places below n, and the uses there, from the last to the first, are l.
 pub data Chain (front : ℕ → ℕ) (us nx : List ℕ) (n v : ℕ) : ℕ → List ℕ → Type 0 where
   none : {h : ℕ} {l : List ℕ} → h ≡ 0 → l ≡ [] → Chain front us nx n v h l
   some : {h : ℕ} {l : List ℕ} (p : ℕ) (m : List ℕ) → h ≡ p + 1 → p < n → front (get_or us p 0) ≡ v → Chain front us nx n v (get_or nx p 0) m
       → l ≡ m ++ (get_or us p 0 ∷ []) → Chain front us nx n v h l
+
+-- The head of a list by the place of its last use. "An emptied list is dropped."
+abbrev pub head_at : Option ℕ → ℕ
+head_at None = 0
+head_at (Some p) = p + 2
 
 -- The head of a list that goes on at m. "An emptied list is dropped."
 abbrev pub entry_of : ℕ → ℕ

@@ -4,7 +4,7 @@
 
 ghost use Rattle.std.specs.Prelude.{◌≡◌, ℕ, ◌+◌, ◌-◌, ◌/◌, ◌≤◌, ◌<◌, length, get_or, set, IfSome, unwrap_or};
 ghost use Rattle.lists.specs.Ends.{end_of, front_in, back_in, EndsIn};
-ghost use Rattle.lists.specs.Lists.{entry_of, heads_after, nexts_after, Tables, Lowest};
+ghost use Rattle.lists.specs.Lists.{place_of, list_of, head_at, entry_of, heads_after, nexts_after, Tables, Lowest};
 
 use compress::Edge;
 use rows::tables::Table;
@@ -17,7 +17,7 @@ pub struct AllEdges<'e, 'd> {
 }
 
 impl AllEdges<'_, '_> {
-    // End j of edge e: 0 is its first vertex number, 1 its second.
+    // End j of edge e: 0 is its first vertex number, 1 its second. Read from the numbers alone, as EndsIn asks; `Table::front` asks for the floats too.
     #[tactic(auto, unfolding(crate::specs::Ends::end_of))]
     fn end_of(&self, e: usize, j: usize) -> u32
         requires { EndsIn self.now e × (j < 2) }
@@ -48,16 +48,9 @@ impl AllEdges<'_, '_> {
     }
 }
 
-// The entry of a vertex whose list goes on at `m`: "an emptied list is dropped".
-fn entry(m: u16) -> u16
-    requires { m < 65535 }
-    ensures { result ≡ entry_of m }
-{
-    if m == 0 { 0 } else { m + 1 }
-}
-
-// The lists of all vertices: `head` has an entry for each vertex, `next` one for each use's place.
-// They are an arena of indices, and no map of vectors, because the calls that hosts make use fixed memory and no heap.
+// The lists of all vertices: `head` has an entry for each vertex, and `next` one for the place of each use.
+// An arena of indices, since the calls that hosts make have fixed memory and no heap: an entry is a place + 2 in `head`,
+// where 0 is no list and 1 an empty one, and a place + 1 in `next`, where 0 is none.
 #[derive(Drop)]
 pub struct UseLists {
     pub head: [u16; 4096],
@@ -72,7 +65,51 @@ impl UseLists {
         ensures next_after { self.new.next ≡ set self.old.next i (get_or self.old.head v 0 - 1) }
     {
         self.next[i] = self.head[v].saturating_sub(1);
-        self.head[v] = (i + 2) as u16;
+        self.set_last(v, Some(i));
+    }
+
+    // The list of v, if there is one: the place of its last use, if it has a use.
+    pub fn list_of(&self, v: usize) -> Option<Option<usize>>
+        requires { v < 4096 }
+        ensures { result ≡ list_of (get_or self.now.head v 0) }
+    {
+        match self.head[v] {
+            0 => None,
+            1 => Some(None),
+            h => Some(Some(usize::from(h) - 2)),
+        }
+    }
+
+    // The place that stands before p in its list, if there is one.
+    pub fn place_before(&self, p: usize) -> Option<usize>
+        requires { p < 1024 }
+        ensures { result ≡ place_of (get_or self.now.next p 0) }
+    {
+        match self.next[p] {
+            0 => None,
+            q => Some(usize::from(q) - 1),
+        }
+    }
+
+    // The place p becomes the first of its list: what stands before is taken.
+    pub fn make_first(&mut self, p: usize)
+        requires { p < 1024 }
+        ensures next_after { self.new.next ≡ set self.old.next p 0 }
+        ensures head_same { self.new.head ≡ self.old.head }
+    {
+        self.next[p] = 0;
+    }
+
+    // The list of v ends at the place `last` from now on. Where it has no use left it is dropped: "an emptied list is dropped".
+    pub fn set_last(&mut self, v: usize, last: Option<usize>)
+        requires { (v < 4096) × IfSome last (λ p. p < 1024) }
+        ensures head_after { self.new.head ≡ set self.old.head v (head_at last) }
+        ensures next_same { self.new.next ≡ self.old.next }
+    {
+        self.head[v] = match last {
+            None => 0,
+            Some(p) => (p + 2) as u16,
+        };
     }
 
     // The last use of the list of v is taken.
@@ -86,7 +123,7 @@ impl UseLists {
         ensures next_same { self.new.next ≡ self.old.next }
     {
         let p = usize::from(self.head[v]) - 2;
-        self.head[v] = entry(self.next[p]);
+        self.set_last(v, self.place_before(p));
         uses[p]
     }
 

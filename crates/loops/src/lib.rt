@@ -2,6 +2,7 @@
 #![tactic(auto)]
 
 ghost use Rattle.std.specs.Prelude.{◌≡◌, ℕ, ◌+◌, ◌/◌, ◌≤◌, ◌<◌, length, get_or, set, drop};
+ghost use Rattle.compress.specs.Wires.{UsesBelow};
 ghost use Rattle.loops.specs.Loop.{first_repeat, place_of, forgotten, table_after};
 
 // The earlier and the later place of an edge number that stands twice.
@@ -12,7 +13,7 @@ pub struct Pair {
 }
 
 // The Rust's `insert`: entry e now holds the place plus 1, and the answer is the place that it held.
-// No table of Option<u16>: that has 4 bytes an entry as well, takes no less time to zero (100 to 160 ns for 4,096, against 100), and 16 bits can't hold it.
+// No table of Option<u16>: it has 4 bytes an entry as well and takes as long or longer to clear, measured: 100 to 160 ns for 4,096, numbers 100.
 fn visit(places: &mut [u32], e: usize, place: usize) -> Option<usize>
     requires { (e < length places.old) × (place < 4294967295) }
     ensures held { result ≡ place_of (get_or places.old e 0) }
@@ -26,7 +27,7 @@ fn visit(places: &mut [u32], e: usize, place: usize) -> Option<usize>
 #[tactic(auto, using(crate::proofs::Search::forgetting))]
 fn forget(wire: &[u32], from: usize, places: &mut [u32])
     requires from_in_bounds { from ≤ length wire.now }
-    requires by_index { (k : ℕ) → k < length wire.now → get_or wire.now k 0 / 2 < length places.old }
+    requires by_index { UsesBelow (length places.old) wire.now }
     ensures places_after { places.new ≡ forgotten (drop from wire.now) places.old }
 {
     for u in &wire[from..] {
@@ -39,14 +40,13 @@ fn forget(wire: &[u32], from: usize, places: &mut [u32])
 #[tactic(auto, using(crate::proofs::Search::searching))]
 pub fn find_loop(wire: &[u32], from: usize, places: &mut [u32]) -> Option<Pair>
     requires from_in_bounds { (from ≤ length wire.now) × (length wire.now ≤ 1024) }
-    requires by_index { (k : ℕ) → k < length wire.now → get_or wire.now k 0 / 2 < length places.old }
+    requires by_index { UsesBelow (length places.old) wire.now }
     ensures result_value { result ≡ first_repeat from wire.now }
     ensures places_after { places.new ≡ table_after from wire.now places.old }
 {
     forget(wire, from, places);
-    for later in from..wire.len() {
-        let e = (wire[later] / 2) as usize;
-        if let Some(earlier) = visit(places, e, later) {
+    for (later, u) in wire.iter().enumerate().skip(from) {
+        if let Some(earlier) = visit(places, (*u / 2) as usize, later) {
             return Some(Pair { earlier, later });
         }
     }

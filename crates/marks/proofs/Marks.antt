@@ -3,13 +3,13 @@
 use mathlib.Core.Path.{◌≡◌, refl, sym}
 use mathlib.Core.Bool.{Bool, true, false}
 use mathlib.Core.List.{List, [], ◌∷◌, ◌++◌}
-use Prim.Native.Nat.{ℕ, zero, suc, ◌+◌, ◌-◌, ◌*◌, ◌/◌, ◌≤◌, ◌<◌}
+use Prim.Native.Nat.{ℕ, zero, suc, ◌+◌, ◌*◌, ◌/◌, ◌≤◌, ◌<◌}
 use native.Mathlib.Numerals.{add-one}
 use native.Mathlib.Omega.{arith}
 use borrow.Author.Tests.{eqb-true, eqb-false}
 use lib.Dec.{eqb}
 use lib.ListN.{length, get_or, set, take}
-use lib.Seq.{sets, take-suc, length-take-le, get_or-set_same, get_or-set_other}
+use lib.Seq.{take-suc, length-take-le, get_or-set_same, get_or-set_other}
 use Rattle.compress.specs.Records.{pick}
 use Rattle.marks.specs.Marks.{new_uses, occurs}
 
@@ -47,20 +47,6 @@ module _ (face ms : List ℕ) (i n : ℕ) (counted : (k : ℕ) → k < n → get
   -- and one more
   pub counted_more : (k : ℕ) → k < n → get_or (set ms (get_or face i 0 / 2) (get_or ms (get_or face i 0 / 2) 0 + 1)) k 0 ≡ occurs k (take (i + 1) face)
   counted_more k h = rw (add-one i, take-suc face i 0 lt, occurs_more k (take i face) (get_or face i 0)) (counted_next k (eqb (get_or face i 0 / 2) k) refl h)
-
--- ---- `signup_new_edges`
-
--- what is left to write gives the same at each turn
-pub signed_more : (out : List ℕ) (at m n i : ℕ) → i < n
-    → sets (set (set out (at + i * 2) ((m + i) * 2)) (at + i * 2 + 1) ((m + i) * 2 + 1)) (at + (i + 1) * 2) (new_uses (m + (i + 1)) (n - (i + 1)))
-    ≡ sets out (at + i * 2) (new_uses (m + i) (n - i))
-unfolding new_uses
-signed_more out at m n i lt =
-    let a : n - i ≡ suc (n - (i + 1)) = omega arith in
-    let b : at + (i + 1) * 2 ≡ suc (suc (at + i * 2)) = omega arith in
-    let d : m + (i + 1) ≡ m + i + 1 = omega arith in
-    let e : at + i * 2 + 1 ≡ suc (at + i * 2) = omega arith in
-    rw (a, b, d, e)
 
 -- ---- the uses of new edges
 

@@ -3,6 +3,7 @@
 #![tactic(auto)]
 
 ghost use Rattle.std.specs.Prelude.{◌≡◌, ℕ, ◌+◌, ◌*◌, ◌/◌, ◌≤◌, ◌<◌, length, get_or};
+ghost use Rattle.compress.specs.Wires.{UsesBelow};
 ghost use Rattle.std.proofs.lemmas.List.Edits.{sets};
 ghost use Rattle.compress.specs.Records.{pick};
 ghost use Rattle.lists.specs.Ends.{pairs_in};
@@ -19,7 +20,7 @@ use walk::Walked;
 // `duplicated_edges`: entry e of `marks` is how often edge e occurs among the uses of the face. The table holds zeros.
 fn duplicated_edges(face: &[u32], marks: &mut [u32])
     requires few { length face.now ≤ 1024 }
-    requires known { (k : ℕ) → k < length face.now → get_or face.now k 0 / 2 < length marks.old }
+    requires known { UsesBelow (length marks.old) face.now }
     requires blank { (k : ℕ) → get_or marks.old k 0 ≡ 0 }
     ensures { (k : ℕ) → k < length marks.old → get_or marks.new k 0 ≡ occurs k face.now }
 {
@@ -37,15 +38,13 @@ fn mark_new(marks: &mut [u32], m: usize, n: usize)
 }
 
 // `signup_new_edges`: each of the n new edges from number m on, forward and reversed, is written from place `at` on.
+// Their uses are the numbers from 2 m on.
 fn signup_new_edges(out: &mut [u32], at: usize, m: usize, n: usize)
     requires { (at + n * 2 ≤ length out.old) × (m + n ≤ 4096) }
     ensures { out.new ≡ sets out.old at (new_uses m n) }
 {
-    for i in 0..n {
-        let u = ((m + i) * 2) as u32;
-        let k = at + i * 2;
-        out[k] = u;
-        out[k + 1] = u + 1;
+    for (i, u) in out[at..at + n * 2].iter_mut().enumerate() {
+        *u = (m * 2 + i) as u32;
     }
 }
 

@@ -5,6 +5,10 @@ use Rattle.compress.specs.Shell.{uses_fit}
 use Rattle.compress.specs.Wires.{total, uses_of, lengths_of, over}
 use Rattle.mending.specs.declared.NoRoom.{NoRoom}
 
+-- each entry is the number of an edge, which a use can name, or 0
+abbrev pub AreNumbers : List ℕ → Type 0
+AreNumbers added = (k : ℕ) → get_or added k 0 < 2147483648
+
 -- the wires lie in their slices, each use is of an edge that `added` has, and there are two places for each use and one for each length
 pub record Replaceable (us ls : List ℕ) (wires : ℕ) (added out out_lengths : List ℕ) : Type 0 where
   pub wires_le : wires ≤ length ls

@@ -3,7 +3,7 @@
 use mathlib.Core.Path.{◌≡◌, refl, ap, sym, ◌∙◌}
 use mathlib.Core.Bool.{Bool, true, false}
 use mathlib.Core.List.{List, [], ◌∷◌, foldl}
-use Prim.Native.Nat.{ℕ, suc, ◌+◌, ◌*◌, ◌/◌, ◌≤◌, ◌<◌}
+use Prim.Native.Nat.{ℕ, suc, ◌+◌, ◌/◌, ◌≤◌, ◌<◌}
 use native.Mathlib.Numerals.{add-one}
 use native.Mathlib.Omega.{arith}
 use lib.ListN.{length, get_or, drop, drop_of_length-le}
@@ -12,35 +12,40 @@ use lib.Ieee.{Float, lt}
 use Rattle.compress.specs.declared.Edge.{Edge}
 use Rattle.compress.specs.declared.Vertex.{Vertex}
 use Rattle.compress.specs.Records.{pick, forward, front_of, front_at}
-use Rattle.compress.specs.Rows.{edge_at}
+use Rattle.compress.specs.Rows.{HasRow}
 use Rattle.compress.specs.Said.{result}
-use Rattle.checks.specs.Causes.{vertices_cause, edges_cause}
+use Rattle.rows.specs.declared.tables.Tables.{Tables}
+use Rattle.rows.specs.Held.{edges_in}
 use Rattle.checks.proofs.Accepted.{edges_accepted, edge_ends, vertices_accepted}
 use Rattle.compress.specs.Choice.{smaller}
 use Rattle.nearest.specs.declared.Away.{Away}
-use Rattle.nearest.specs.Ends.{point_of, away_at, gap_of, gap_from, fronts_of, nearest_front, ends_from, nearest_ends}
+use Rattle.compress.specs.Points.{point_of}
+use Rattle.nearest.specs.Tables.{AreSound}
+use Rattle.nearest.specs.Ends.{away_at, gap_of, gap_from, fronts_of, nearest_front, ends_from, nearest_ends}
 
 pick_below : (b : Bool) (x y v : ℕ) → x < v → y < v → pick b x y < v
 pick_below true x y v h k = h
 pick_below false x y v h k = k
 
--- the front of a use of an accepted table is one of its vertices
-pub front_below : (v : ℕ) (en : List ℕ) (ef : List Float) (e u f : ℕ) → edges_cause v en ef e ≡ 0 → u / 2 < e → f ≡ front_at (edge_at en ef) u → f < v
-unfolding front_at front_of
-front_below v en ef e u f q h r =
-    let a = edge_ends v (edge_at en ef (u / 2)) ((edges_accepted v en ef e q).rows (u / 2) h) in
-    rw r (pick_below (forward u) (edge_at en ef (u / 2)).front (edge_at en ef (u / 2)).back v a.0 a.1)
+module _ (t : Tables) (S : AreSound t) where
+  -- the front of a use is one of the vertices
+  pub front_below : (u f : ℕ) → u / 2 < t.edges.count → f ≡ front_at (edges_in t.edges) u → f < t.vertices.count
+  unfolding front_at front_of
+  front_below u f h r =
+      let e = edges_in t.edges (u / 2) in
+      let a = edge_ends t.vertices.count e ((edges_accepted t.vertices.count t.edges.numbers.now t.edges.floats.now t.edges.count S.edges).rows (u / 2) h) in
+      rw r (pick_below (forward u) e.front e.back t.vertices.count a.0 a.1)
 
--- the row of a use's edge, and of a vertex, lies in its slices
-pub edge_row : (v : ℕ) (en : List ℕ) (ef : List Float) (e i : ℕ) → edges_cause v en ef e ≡ 0 → i < e → (i * 4 + 4 ≤ length en) × (i * 6 + 6 ≤ length ef)
-edge_row v en ef e i q h =
-    let a = edges_accepted v en ef e q in
-    (omega (arith, a.numbers), omega (arith, a.floats))
+  -- the row of a use's edge, and of a vertex, lies in its slices
+  pub edge_row : (i : ℕ) → i < t.edges.count → HasRow 4 6 t.edges.numbers.now t.edges.floats.now i
+  edge_row i h =
+      let a = edges_accepted t.vertices.count t.edges.numbers.now t.edges.floats.now t.edges.count S.edges in
+      (omega (arith, a.numbers), omega (arith, a.floats))
 
-pub vertex_row : (vn : List ℕ) (vf : List Float) (v i : ℕ) → vertices_cause vn vf v ≡ 0 → i < v → (i * 3 + 3 ≤ length vn) × (i * 7 + 7 ≤ length vf)
-vertex_row vn vf v i q h =
-    let a = vertices_accepted vn vf v q in
-    (omega (arith, a.numbers), omega (arith, a.floats))
+  pub vertex_row : (i : ℕ) → i < t.vertices.count → HasRow 3 7 t.vertices.numbers.now t.vertices.floats.now i
+  vertex_row i h =
+      let a = vertices_accepted t.vertices.numbers.now t.vertices.floats.now t.vertices.count S.vertices in
+      (omega (arith, a.numbers), omega (arith, a.floats))
 
 pub smaller_below : (f : ℕ → Float) (a b v : ℕ) → a < v → b < v → smaller f a b < v
 unfolding smaller
@@ -109,6 +114,3 @@ ends_found es vs v0 first second v1 w0 ns nf p q =
 -- the uses after the first of a stretch are uses of it
 pub uses_after : (m : ℕ) (w us : List ℕ) (u : ℕ) → w ≡ u ∷ us → ((k : ℕ) → k < length w → get_or w k 0 / 2 < m) → (k : ℕ) → k < length us → get_or us k 0 / 2 < m
 uses_after m w us u e h k lt = let g = rw e at h in g (suc k) (omega arith)
-
--- the lemmas that place rows and fronts in accepted tables
-pub ruleset in_tables = (edge_row, vertex_row, front_below)

@@ -3,18 +3,13 @@ use Rattle.std.specs.Prelude.{List, [], ◌∷◌, ℕ, Float}
 use Rattle.floats.specs.Exact.{distance2_xyz}
 use Rattle.compress.specs.declared.Edge.{Edge}
 use Rattle.compress.specs.declared.Vertex.{Vertex}
-use Rattle.compress.specs.declared.Vertex.TheVariants.{Given, Pending}
 use Rattle.compress.specs.Records.{front_at}
 use Rattle.compress.specs.Said.{Said, result, none}
-use Rattle.nearest.specs.declared.Xyz.{Xyz}
+use Rattle.compress.specs.declared.Xyz.{Xyz}
 use Rattle.nearest.specs.declared.Away.{Away}
 use Rattle.nearest.specs.declared.Ends.{Ends}
-use Rattle.compress.specs.Choice.{zero64, smallest}
-
--- the point of a given vertex; a pending one has none, and is refused (7) before it is read
-unfoldable pub point_of : Vertex → Xyz
-point_of (Given x y z) = record { x = x; y = y; z = z }
-point_of (Pending c t) = record { x = zero64; y = zero64; z = zero64 }
+use Rattle.compress.specs.Choice.{smallest}
+use Rattle.compress.specs.Points.{point_of}
 
 -- "Squares are added in the order x, y, z"
 unfoldable pub point_gap : Xyz → Xyz → Float

@@ -1,12 +1,14 @@
--- The records in the rows of a table that is lent. Definitions only.
-use Rattle.std.specs.Prelude.{ℕ}
-use Rattle.compress.specs.declared.Edge.{Edge}
-use Rattle.compress.specs.declared.Vertex.{Vertex}
-use Rattle.compress.specs.Rows.{edge_at, vertex_at}
-use Rattle.rows.specs.declared.tables.Table.{Table}
+-- What is asked of tables and wires that were checked. Definitions only.
+use Rattle.std.specs.Prelude.{◌≡◌, List, ℕ, ◌≤◌, length}
+use Rattle.compress.specs.Wires.{UsesBelow}
+use Rattle.rows.specs.declared.tables.Tables.{Tables}
+use Rattle.checks.specs.Causes.{vertices_cause, edges_cause}
 
-abbrev pub vertices_in : Table Vertex → ℕ → Vertex
-vertices_in t = vertex_at t.numbers.now t.floats.now
+-- The vertices, and the edges between them, have none of the causes.
+pub record AreSound (t : Tables) : Type 0 where
+  pub vertices : vertices_cause t.vertices.numbers.now t.vertices.floats.now t.vertices.count ≡ 0
+  pub edges : edges_cause t.vertices.count t.edges.numbers.now t.edges.floats.now t.edges.count ≡ 0
 
-abbrev pub edges_in : Table Edge → ℕ → Edge
-edges_in t = edge_at t.numbers.now t.floats.now
+-- A wire over m edges has at most 1,024 uses.
+abbrev pub IsWire : ℕ → List ℕ → Type 0
+IsWire m w = (length w ≤ 1024) × UsesBelow m w

@@ -3,46 +3,23 @@
 
 ghost use Rattle.std.specs.Prelude.{◌≡◌, ℕ, ◌+◌, ◌*◌, ◌/◌, ◌≤◌, ◌<◌, length, get_or};
 ghost use Rattle.compress.specs.Choice.{smaller};
+ghost use Rattle.compress.specs.Wires.{UsesBelow};
+ghost use Rattle.compress.specs.Points.{point_of};
+ghost use Rattle.compress.specs.Rows.{HasRow};
 ghost use Rattle.compress.specs.Said.{said_if};
-ghost use Rattle.nearest.specs.Ends.{point_of, point_gap, away_at, gap_of, nearest_front, nearest_ends};
-ghost use Rattle.checks.specs.Causes.{vertices_cause, edges_cause};
-ghost use Rattle.nearest.specs.Tables.{vertices_in, edges_in};
+ghost use Rattle.nearest.specs.Ends.{point_gap, away_at, gap_of, nearest_front, nearest_ends};
+ghost use Rattle.nearest.specs.Tables.{AreSound};
+ghost use Rattle.rows.specs.Held.{vertices_in, edges_in};
 
-use compress::{Edge, Vertex};
-use rows::tables::Table;
+use compress::{Vertex, Xyz};
+use rows::tables::{Table, Tables};
 
-// A point in space.
-#[derive(Clone, Copy)]
-struct Xyz {
-    x: f64,
-    y: f64,
-    z: f64,
-}
-
-impl From<Vertex> for Xyz {
-    ghost from_gives = { λ v p. p ≡ point_of v };
-
-    #[tactic(auto, unfolding(crate::specs::Ends::point_of))]
-    fn from(v: Vertex) -> Xyz {
-        match v {
-            Vertex::Given { x, y, z } => Xyz { x, y, z },
-            Vertex::Pending { curve: _, t: _ } => Xyz {
-                x: 0.0,
-                y: 0.0,
-                z: 0.0,
-            },
-        }
-    }
-}
-
-impl Xyz {
-    // The squared distance to another point.
-    #[tactic(auto, unfolding(crate::specs::Ends::point_gap))]
-    fn gap(self, q: Xyz) -> f64
-        ensures { result ≡ point_gap self q }
-    {
-        floats::distance2_xyz(self.x, self.y, self.z, q.x, q.y, q.z)
-    }
+// The squared distance of two points.
+#[tactic(auto, unfolding(crate::specs::Ends::point_gap))]
+fn gap(p: Xyz, q: Xyz) -> f64
+    ensures { result ≡ point_gap p q }
+{
+    floats::distance2_xyz(p.x, p.y, p.z, q.x, q.y, q.z)
 }
 
 // A vertex, with its squared distance from a point.
@@ -54,11 +31,10 @@ struct Away {
 
 impl Away {
     // Of two vertices the one that is less away; the first on a tie.
-    #[tactic(auto, unfolding(compress::specs::Choice::smaller))]
     fn nearer(self, other: Away) -> Away
         ensures { result ≡ smaller gap_of self other }
     {
-        if other.gap < self.gap { other } else { self }
+        periodic::smaller(|a: Away| a.gap, self, other)
     }
 }
 
@@ -71,62 +47,54 @@ pub struct Ends {
 
 // The point of vertex v.
 fn point_at(vertices: &Table<Vertex>, v: u32) -> Xyz
-    requires { (v * 3 + 3 ≤ length vertices.now.numbers.now) × (v * 7 + 7 ≤ length vertices.now.floats.now) }
+    requires { HasRow 3 7 vertices.now.numbers.now vertices.now.floats.now v }
     ensures { result ≡ point_of (vertices_in vertices.now v) }
 {
     Xyz::from(vertices.at(v as usize))
 }
 
 fn away_at(vertices: &Table<Vertex>, from: Xyz, v: u32) -> Away
-    requires { (v * 3 + 3 ≤ length vertices.now.numbers.now) × (v * 7 + 7 ≤ length vertices.now.floats.now) }
+    requires { HasRow 3 7 vertices.now.numbers.now vertices.now.floats.now v }
     ensures { result ≡ away_at (vertices_in vertices.now) from v }
 {
     Away {
         vertex: v,
-        gap: from.gap(point_at(vertices, v)),
+        gap: gap(from, point_at(vertices, v)),
     }
 }
 
 // The front that is nearest to vertex p in a stretch of use u and those that follow.
-#[tactic(auto, using(crate::proofs::Fronts::in_tables))]
-fn nearest_front(vertices: &Table<Vertex>, edges: &Table<Edge>, u: u32, us: &[u32], p: u32) -> u32
-    requires vertices_sound { vertices_cause vertices.now.numbers.now vertices.now.floats.now vertices.now.count ≡ 0 }
-    requires edges_sound { edges_cause vertices.now.count edges.now.numbers.now edges.now.floats.now edges.now.count ≡ 0 }
-    requires p_in_table { p < vertices.now.count }
-    requires u_in_table { u / 2 < edges.now.count }
-    requires us_in_table { (k : ℕ) → k < length us.now → get_or us.now k 0 / 2 < edges.now.count }
-    ensures value { result ≡ nearest_front (edges_in edges.now) (vertices_in vertices.now) p u us.now }
-    ensures below { result < vertices.now.count }
+fn nearest_front(tables: &Tables, u: u32, us: &[u32], p: u32) -> u32
+    requires sound { AreSound tables.now }
+    requires p_in_table { p < tables.now.vertices.count }
+    requires u_in_table { u / 2 < tables.now.edges.count }
+    requires us_in_table { UsesBelow tables.now.edges.count us.now }
+    ensures value { result ≡ nearest_front (edges_in tables.now.edges) (vertices_in tables.now.vertices) p u us.now }
+    ensures below { result < tables.now.vertices.count }
 {
-    let from = point_at(vertices, p);
-    let first = edges.front(u);
-    let mut best = away_at(vertices, from, first);
+    let from = point_at(&tables.vertices, p);
+    let first = tables.edges.front(u);
+    let mut best = away_at(&tables.vertices, from, first);
     for w in us {
-        let v = edges.front(*w);
-        best = best.nearer(away_at(vertices, from, v));
+        let v = tables.edges.front(*w);
+        best = best.nearer(away_at(&tables.vertices, from, v));
     }
     best.vertex
 }
 
 // From v0 the nearest front of the second stretch, from there the nearest front of the first. "An empty stretch gives "none"."
 #[tactic(auto, unfolding(crate::specs::Ends::nearest_ends))]
-pub fn nearest_ends(
-    vertices: &Table<Vertex>,
-    edges: &Table<Edge>,
-    first: &[u32],
-    second: &[u32],
-    v0: u32,
-) -> Option<Ends>
-    requires vertices_sound { vertices_cause vertices.now.numbers.now vertices.now.floats.now vertices.now.count ≡ 0 }
-    requires edges_sound { edges_cause vertices.now.count edges.now.numbers.now edges.now.floats.now edges.now.count ≡ 0 }
-    requires v0_in_table { v0 < vertices.now.count }
-    requires first_in_table { (k : ℕ) → k < length first.now → get_or first.now k 0 / 2 < edges.now.count }
-    requires second_in_table { (k : ℕ) → k < length second.now → get_or second.now k 0 / 2 < edges.now.count }
-    ensures { said_if (λ e. e) (Ok result) ≡ nearest_ends (edges_in edges.now) (vertices_in vertices.now) v0 first.now second.now }
+pub fn nearest_ends(tables: &Tables, first: &[u32], second: &[u32], v0: u32) -> Option<Ends>
+    requires sound { AreSound tables.now }
+    requires v0_in_table { v0 < tables.now.vertices.count }
+    requires first_in_table { UsesBelow tables.now.edges.count first.now }
+    requires second_in_table { UsesBelow tables.now.edges.count second.now }
+    ensures { said_if (λ e. e) (Ok result) ≡ nearest_ends (edges_in tables.now.edges) (vertices_in tables.now.vertices)
+        v0 first.now second.now }
 {
     let (u, us) = second.split_first()?;
-    let v1 = nearest_front(vertices, edges, *u, us, v0);
+    let v1 = nearest_front(tables, *u, us, v0);
     let (u, us) = first.split_first()?;
-    let v0 = nearest_front(vertices, edges, *u, us, v1);
+    let v0 = nearest_front(tables, *u, us, v1);
     Some(Ends { v0, v1 })
 }

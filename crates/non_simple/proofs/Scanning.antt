@@ -1,18 +1,22 @@
 -- The search over all wires: the wires that are left give the same answer, until one of them does.
 -- Assumes nothing.
 use mathlib.Core.Path.{◌≡◌, refl}
-use mathlib.Core.List.{List, ◌++◌}
-use Prim.Native.Nat.{ℕ, ◌+◌, ◌-◌, ◌/◌, ◌%◌, ◌≤◌, ◌<◌}
+use mathlib.Core.List.{List, [], ◌∷◌, ◌++◌}
+use Prim.Native.Nat.{ℕ, ◌+◌, ◌/◌, ◌%◌, ◌≤◌, ◌<◌}
 use native.Mathlib.Nat.{mod-lt}
 use native.Mathlib.Omega.{arith}
-use lib.ListN.{length, get_or, take, drop, drop_of_length-le}
+use lib.ListN.{length, get_or, take}
 use lib.Ieee.{Float}
-use lib.Seq.{take_at, length-take-le, get_or-take}
+use lib.Seq.{take_at}
 use Rattle.compress.specs.declared.Edge.{Edge}
 use Rattle.compress.specs.declared.Vertex.{Vertex}
 use Rattle.compress.specs.Said.{Said, result, none, refused}
-use Rattle.compress.specs.Wires.{total, wires_of}
-use Rattle.compress.proofs.Wires.{wire_in, wires_first, wire_size, part_at}
+use Rattle.compress.specs.Wires.{wires_of, UsesBelow}
+use Rattle.rows.specs.declared.lent.Wires.{Wires}
+use Rattle.rows.specs.declared.lent.EachWire.{EachWire}
+use Rattle.rows.specs.declared.tables.Tables.{Tables}
+use Rattle.rows.specs.Held.{wires_in}
+use Rattle.rows.proofs.Each.{AllOf, first_holds, all_wires}
 use Rattle.compress.proofs.Refused.{said_refused, said_checked}
 use Rattle.checks.specs.Causes.{wires_cause}
 use Rattle.checks.proofs.Accepted.{wires_accepted, edges_accepted}
@@ -21,6 +25,7 @@ use Rattle.points.proofs.Accepted.{TablesAccepted, tables_accepted}
 use Rattle.wires.specs.Turn.{turned}
 use Rattle.wires.proofs.Turns.{length_turned, get_or_turned}
 use Rattle.nearest.specs.declared.Ends.{Ends}
+use Rattle.nearest.specs.Tables.{AreSound, IsWire}
 use Rattle.points.specs.Tables.{tables_cause}
 use Rattle.non_simple.specs.Divisor.{wire_divisor, or_next, find_divisor, search_cause}
 
@@ -35,72 +40,69 @@ module _ (w : List ℕ) (i : ℕ) (h : i ≤ length w) where
       let l : k < length w = omega (arith, length_turned i w h) in
       rw (get_or_turned i k w h l) (us ((i + k) % length w) (mod-lt (i + k) p))
 
+-- a wire that is turned, and written to the front of a list
+pub turned_wire : (t : Tables) (w out rest : List ℕ) (i : ℕ) → out ≡ turned i w ++ rest → i < length w → IsWire t.edges.count w → IsWire t.edges.count (take (length w) out)
+turned_wire t w out rest i e lt is =
+    let le : i ≤ length w = omega (arith, lt) in
+    rw (turned_front w i le out rest e) (omega (arith, is.0, length_turned i w le), turned_uses w i le t.edges.count (omega (arith, lt)) is.1)
+
+-- the places of 4,096 edges have one for each use
+pub has_place : (t : Tables) → AreSound t → (w places : List ℕ) → UsesBelow t.edges.count w → length places ≡ 4096
+    → (k : ℕ) → k < length w → get_or w k 0 / 2 < length places
+has_place t S w places known n k lt =
+    let a = edges_accepted t.vertices.count t.edges.numbers.now t.edges.floats.now t.edges.count S.edges in
+    omega (arith, a.below, known k lt, n)
+
 -- ---- all wires
-pub record Scanning (es : ℕ → Edge) (vs : ℕ → Vertex) (us ls : List ℕ) (n : ℕ) (w from : ℕ) : Type 0 where
-  pub from_is : from + total (drop w (take n ls)) ≡ total (take n ls)
-  pub is : find_divisor es vs (wires_of (drop from us) (drop w (take n ls))) ≡ find_divisor es vs (wires_of us (take n ls))
 
-module _ (es : ℕ → Edge) (vs : ℕ → Vertex) (us ls : List ℕ) (n m : ℕ) (z : wires_cause m us ls n ≡ 0) where
-  pub scanning_start : Scanning es vs us ls n 0 0
-  scanning_start = record { from_is = omega arith; is = refl }
+-- The wires that are left are wires over m edges, and give what all of them give.
+pub record Scanning (es : ℕ → Edge) (vs : ℕ → Vertex) (m : ℕ) (w : Wires) (s : EachWire) : Type 0 where
+  pub sound : AllOf (IsWire m) (wires_of s.uses.now s.lengths.now)
+  pub is : find_divisor es vs (wires_of s.uses.now s.lengths.now) ≡ find_divisor es vs (wires_in w)
 
-  module _ (w from : ℕ) (S : Scanning es vs us ls n w from) (lt : w < length (take n ls)) where
-    -- the length of wire w, and the wire as it is lent on
-    abbrev pub size : ℕ
-    size = get_or (take n ls) w 0
+pub scanning_start : (es : ℕ → Edge) (vs : ℕ → Vertex) (m : ℕ) (w : Wires) (s : EachWire) → wires_cause m w.uses.now w.lengths.now w.count ≡ 0
+    → wires_of s.uses.now s.lengths.now ≡ wires_in w → Scanning es vs m w s
+scanning_start es vs m w s z e =
+    let a = wires_accepted m w.uses.now w.lengths.now w.count z in
+    record {
+      sound = rw e (all_wires (λ u. u / 2 < m) w.uses.now (take w.count w.lengths.now) 1024 a.uses a.few a.edges);
+      is = rw e refl;
+    }
 
-    abbrev pub wire_here : List ℕ
-    wire_here = take (from + size - from) (drop from us)
+module _ (es : ℕ → Edge) (vs : ℕ → Vertex) (m : ℕ) (w : Wires) (s t : EachWire) (wire : List ℕ) (S : Scanning es vs m w s)
+    (e : wires_of s.uses.now s.lengths.now ≡ wire ∷ wires_of t.uses.now t.lengths.now) where
+  pub is_wire : IsWire m wire
+  is_wire = (first_holds (IsWire m) _ _ wire e S.sound).0
 
-    inside : w < n
-    inside = omega (arith, length-take-le n ls (wires_accepted m us ls n z).lengths)
+  -- what the search answers, by what the wire does
+  pub met : (r : Said Ends) → r ≡ wire_divisor es vs wire → or_next r (find_divisor es vs (wires_of t.uses.now t.lengths.now)) ≡ find_divisor es vs (wires_in w)
+  unfolding find_divisor
+  met r q = rw q (rw e at S.is)
 
-    size_is : size ≡ get_or ls w 0
-    size_is = get_or-take n ls w 0 inside
+  pub scanning_turn : none ≡ wire_divisor es vs wire → Scanning es vs m w t
+  scanning_turn q = record { sound = (first_holds (IsWire m) _ _ wire e S.sound).1; is = met none q }
 
-    pub lies : (from + size + total (drop (w + 1) (take n ls)) ≡ total (take n ls)) × (total (take n ls) ≤ 1024) × (total (take n ls) ≤ length us) × (length wire_here ≡ size)
-    lies =
-        let a = wires_accepted m us ls n z in
-        let i = wire_in us ls n w from a.lengths inside S.from_is in
-        rw size_is (i, a.few, a.uses, wire_size us ls n w from a.lengths inside (omega (arith, a.uses)))
+  pub scanning_found : (d : Ends) → result d ≡ wire_divisor es vs wire → result d ≡ find_divisor es vs (wires_in w)
+  scanning_found d q = met (result d) q
 
-    pub here_uses : (k : ℕ) → k < length wire_here → get_or wire_here k 0 / 2 < m
-    here_uses k h =
-        let l = lies in
-        let g : k < from + size - from = omega (arith, l.3) in
-        rw (part_at 0 us from (from + size) k g) ((wires_accepted m us ls n z).edges (from + k) (omega (arith, l.0)))
+  pub scanning_refused : (k : ℕ) → refused k ≡ wire_divisor es vs wire → refused k ≡ find_divisor es vs (wires_in w)
+  scanning_refused k q = met (refused k) q
 
-    -- what the search answers, by what wire w does
-    met : (r : Said Ends) → r ≡ wire_divisor es vs wire_here
-        → or_next r (find_divisor es vs (wires_of (drop (from + size) us) (drop (w + 1) (take n ls)))) ≡ find_divisor es vs (wires_of us (take n ls))
-    unfolding find_divisor
-    met r e = rw (e, size_is) (rw (wires_first us ls n w from (wires_accepted m us ls n z).lengths inside) at S.is)
-
-    pub scanning_turn : none ≡ wire_divisor es vs wire_here → Scanning es vs us ls n (w + 1) (from + size)
-    scanning_turn e = record { from_is = lies.0; is = met none e }
-
-    pub scanning_found : (d : Ends) → result d ≡ wire_divisor es vs wire_here → result d ≡ find_divisor es vs (wires_of us (take n ls))
-    scanning_found d e = met (result d) e
-
-    pub scanning_refused : (k : ℕ) → refused k ≡ wire_divisor es vs wire_here → refused k ≡ find_divisor es vs (wires_of us (take n ls))
-    scanning_refused k e = met (refused k) e
-
-  pub scanning_done : (w from : ℕ) → Scanning es vs us ls n w from → length (take n ls) ≤ w → none ≡ find_divisor es vs (wires_of us (take n ls))
-  unfolding find_divisor wires_of
-  scanning_done w from S h = rw (drop_of_length-le (take n ls) h) at S.is
+pub scanning_done : (es : ℕ → Edge) (vs : ℕ → Vertex) (m : ℕ) (w : Wires) (s : EachWire) → Scanning es vs m w s → wires_of s.uses.now s.lengths.now ≡ []
+    → none ≡ find_divisor es vs (wires_in w)
+unfolding find_divisor
+scanning_done es vs m w s S e = rw e at S.is
 
 -- ---- the call's causes
 module _ (vn : List ℕ) (vf : List Float) (en : List ℕ) (ef : List Float) (us ls : List ℕ) (v e n : ℕ) where
-  pub search_accepted : search_cause vn vf en ef us ls v e n ≡ 0 → TablesAccepted vn vf en ef v e × (wires_cause e us ls n ≡ 0) × (e ≤ 4096)
+  pub search_accepted : search_cause vn vf en ef us ls v e n ≡ 0 → TablesAccepted vn vf en ef v e × (wires_cause e us ls n ≡ 0)
   unfolding search_cause
   search_accepted q =
       let a = lower_none (tables_cause vn vf en ef v e) (wires_cause e us ls n) q in
       let t = tables_accepted vn vf en ef v e a.0 in
-      (t, a.1, (edges_accepted v en ef e t.edges).below)
+      (t, a.1)
 
--- ---- the lemmas of a wire that is turned, of the search over all wires, and of the call
-pub ruleset turning = (turned_front, turned_uses)
-
-pub ruleset scanning = (lies, here_uses, scanning_turn, scanning_found, scanning_refused, scanning_done)
+-- ---- the lemmas of the search over all wires, and of the call
+pub ruleset scanning = (scanning_start, is_wire, scanning_turn, scanning_found, scanning_refused, scanning_done)
 
 pub ruleset checked = (search_accepted, said_refused, said_checked)

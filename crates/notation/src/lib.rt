@@ -3,6 +3,7 @@
 
 ghost use Rattle.std.specs.Prelude.{◌≡◌, ◌==◌, count_by, drop, get_or, take};
 
+use rows::lent;
 use std::fmt;
 
 // The entry at i, or 0 past the end.
@@ -52,23 +53,19 @@ impl fmt::Display for Wire<'_> {
     }
 }
 
-// Wires of these lengths, a stroke between them.
+// Wires, a stroke between them.
 #[derive(Clone, Copy)]
-pub struct Wires<'a> {
-    pub uses: &'a [u32],
-    pub lengths: &'a [u32],
-}
+pub struct Wires<'a>(pub lent::Wires<'a>);
 
 impl fmt::Display for Wires<'_> {
+    #[tactic(auto, using(compress::proofs::Wires::length_wires))]
     fn fmt<W: fmt::Write>(&self, f: &mut fmt::Formatter<W>) -> fmt::Result {
-        let mut rest = self.uses;
-        for (k, &n) in self.lengths.iter().enumerate() {
+        for (k, uses) in self.0.each().enumerate() {
             if k != 0 {
                 write!(f, " |")?;
             }
-            let wire = Wire(first(rest, n as usize));
+            let wire = Wire(uses);
             write!(f, "{wire}")?;
-            rest = past(rest, n as usize);
         }
         Ok(())
     }

@@ -17,14 +17,15 @@ ghost use Rattle.one_cut.specs.Contract.{one_cut_cause, once_outcome, cut_outcom
 ghost use Rattle.one_cut.specs.Steps.{asks};
 
 use compress::{Checked, Counts, Edge, Refusal, Vertex};
-use cuts::{Cut, LentCuts};
+use cuts::{Cut, EdgeCuts};
 use mending::NoRoom;
 use rows::lent::WiresMut;
 use rows::tables::TableMut;
 
 // ---- causes
 
-// Cell i, and NaN past the end.
+// Cell i, and NaN past the end, as the definition of the causes has it: the edge's number is then past the table too, which is the lower cause.
+// `notation::at` is the same of numbers, for the programs: one function for both would be std's two calls again.
 fn float_at(floats: &[f64], i: usize) -> f64
     ensures { result ≡ get_or floats.now i nan }
 {
@@ -36,16 +37,15 @@ fn one_cut_cause(
     vertices: &TableMut<Vertex>,
     edges: &TableMut<Edge>,
     wires: &WiresMut,
-    edge: u32,
-    cuts: &LentCuts,
+    cuts: &EdgeCuts,
 ) -> Checked
-    ensures { cause_of result ≡ one_cut_cause (lent vertices.now edges.now wires.now) edge cuts.now.floats.now cuts.now.count }
+    ensures { cause_of result ≡ one_cut_cause (lent vertices.now edges.now wires.now) cuts.now.edge cuts.now.floats.now cuts.now.count }
 {
-    let b = edge as usize * 6;
+    let b = cuts.edge as usize * 6;
     let t0 = float_at(edges.floats, b + 4);
     let t1 = float_at(edges.floats, b + 5);
     let shell = cutting::input_cause(vertices, edges, wires);
-    let number = checks::edge_number(edges.count, edge);
+    let number = checks::edge_number(edges.count, cuts.edge);
     let c = cuts.cause(t0, t1);
     checks::lower(shell, checks::lower(number, c))
 }
@@ -55,12 +55,11 @@ fn judge(
     vertices: &TableMut<Vertex>,
     edges: &TableMut<Edge>,
     wires: &WiresMut,
-    edge: u32,
-    cuts: &LentCuts,
+    cuts: &EdgeCuts,
 ) -> Result<Option<Cut>, Refusal>
-    ensures { asks (lent vertices.now edges.now wires.now) edge cuts.now.floats.now cuts.now.count result }
+    ensures { asks (lent vertices.now edges.now wires.now) cuts.now.edge cuts.now.floats.now cuts.now.count result }
 {
-    one_cut_cause(vertices, edges, wires, edge, cuts)?;
+    one_cut_cause(vertices, edges, wires, cuts)?;
     match cuts.count {
         0 => Ok(None),
         1 => Ok(Some(cuts.at(0))),
@@ -71,7 +70,7 @@ fn judge(
 // ---- the wires
 
 // The wires are mended in place after edge i of `edges` is cut, by the map of `replace_edges` where just that edge is cut. It is made in a table
-// of N entries. `room` is how many cuts the tables of the shell have room for.
+// of N entries, of numbers for the reason given at `mending::replace_use`. `room` is how many cuts the tables of the shell have room for.
 fn mend_within<const N: usize>(
     wires: &mut WiresMut,
     edges: usize,
@@ -80,7 +79,9 @@ fn mend_within<const N: usize>(
 ) -> Result<usize, NoRoom>
     requires table { (i < edges) × (edges ≤ N) × (N ≤ 4096) }
     requires wires_value { wires_cause edges wires.old.uses.now wires.old.lengths.now wires.old.count ≡ 0 }
-    ensures mended { InPlace (replace_wires (added_at edges i edges) (wires_held wires.old)) (leb 1 room) wires.old.uses.now wires.old.lengths.now wires.new.uses.now wires.new.lengths.now result }
+    ensures mended { let w = wires.old in
+        let mended = replace_wires (added_at edges i edges) (wires_held w) in
+        InPlace mended (leb 1 room) w.uses.now w.lengths.now wires.new.uses.now wires.new.lengths.now result }
     ensures same { SameWires wires.old wires.new }
 {
     let mut added = [0u32; N];
@@ -92,7 +93,9 @@ fn mend_within<const N: usize>(
 fn mend_cut(wires: &mut WiresMut, edges: usize, i: usize, room: usize) -> Result<usize, NoRoom>
     requires table { (i < edges) × (edges ≤ 4096) }
     requires wires_value { wires_cause edges wires.old.uses.now wires.old.lengths.now wires.old.count ≡ 0 }
-    ensures mended { InPlace (replace_wires (added_at edges i edges) (wires_held wires.old)) (leb 1 room) wires.old.uses.now wires.old.lengths.now wires.new.uses.now wires.new.lengths.now result }
+    ensures mended { let w = wires.old in
+        let mended = replace_wires (added_at edges i edges) (wires_held w) in
+        InPlace mended (leb 1 room) w.uses.now w.lengths.now wires.new.uses.now wires.new.lengths.now result }
     ensures same { SameWires wires.old wires.new }
 {
     if edges <= 64 {
@@ -129,26 +132,26 @@ fn cut_checked(
 }
 
 // `cut_edge_by_intersections` with `insert_new_edges`: no cut changes nothing, one cuts the edge and mends every wire, in place, and two or
-// more are refused. A refusal leaves all six slices as they were.
+// more are refused. A refusal leaves all six slices as they were. Each struct says for itself that it refers to the same slices, here and in the
+// pass: one clause over all three would name the same six values.
 pub fn cut_edge_by_intersections(
     vertices: &mut TableMut<Vertex>,
     edges: &mut TableMut<Edge>,
     wires: &mut WiresMut,
-    edge: u32,
-    cuts: &LentCuts,
+    cuts: &EdgeCuts,
 ) -> Result<Counts, Refusal>
-    ensures outcome { left result vertices.new edges.new wires.new ≡ cut_outcome (lent vertices.old edges.old wires.old) edge cuts.now.floats.now cuts.now.count }
+    ensures outcome { let l = lent vertices.old edges.old wires.old in
+        left result vertices.new edges.new wires.new ≡ cut_outcome l cuts.now.edge cuts.now.floats.now cuts.now.count }
     ensures same_vertices { SameTable vertices.old vertices.new }
     ensures same_edges { SameTable edges.old edges.new }
     ensures same_wires { SameWires wires.old wires.new }
 {
-    let Some(c) = judge(vertices, edges, wires, edge, cuts)? else {
-        let wires = wires.view();
+    let Some(c) = judge(vertices, edges, wires, cuts)? else {
         return Ok(Counts {
             vertices: vertices.count,
             edges: edges.count,
-            uses: checks::total_uses(&wires.lengths[..wires.count]),
+            uses: wires.view().total_uses(),
         });
     };
-    cut_checked(vertices, edges, wires, edge as usize, c)
+    cut_checked(vertices, edges, wires, cuts.edge as usize, c)
 }

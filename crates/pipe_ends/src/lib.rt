@@ -2,18 +2,24 @@
 // rims, and the search for a wire that uses an edge twice. What a call answers is written.
 #![tactic(auto)]
 
-use correction::Stretch;
+ghost use Rattle.std.specs.Prelude.{IfOk};
+ghost use Rattle.pipe_ends.specs.Steps.{ends_said, divisor_said, Answered};
+
 use nearest::Ends;
 use pipe_shell::{Shell, Stop};
 use std::io;
+use wire_kinds::LentEnds;
 
 // Sorts the wires: just the two rims are open.
 pub fn sort(rt: &impl Print, s: &Shell) -> Result<(), Stop> {
     print!(rt; "2. sorting of wires:")?;
-    let ends = pipe_shell::ends_of_wires();
+    let ends = LentEnds {
+        floats: &pipe_shell::ends_of_wires(),
+        count: s.wires.count,
+    };
     let mut opens = [0u32; 2];
     let mut closed = [0u32; 2];
-    let sorted = wire_kinds::sort_wires(&ends, s.wires.count, &mut opens, &mut closed)?;
+    let sorted = wire_kinds::sort_wires(&ends, &mut opens, &mut closed)?;
     let count = sorted.ok_or(Stop::NoResult)?;
     let [first, second] = opens;
     println!(rt; " wires {first} and {second} are open, {count} closed")?;
@@ -32,16 +38,11 @@ fn write_ends(rt: &impl Print, ends: Ends) -> io::Result<()> {
 }
 
 // The nearest ends of the two rims, from vertex 0 on, where the turn begins.
-pub fn nearest_ends(rt: &impl Print, s: &Shell) -> Result<Ends, Stop> {
+pub fn nearest_ends(rt: &impl Print, s: &Shell) -> Result<Ends, Stop>
+    ensures { IfOk result (λ ends. Answered (ends_said s.now) ends) }
+{
     print!(rt; "3. nearest ends:")?;
-    let first = Stretch {
-        uses: &s.wires.uses,
-        count: s.wires.length_of(0),
-    };
-    let second = Stretch {
-        uses: s.wires.second(),
-        count: s.wires.length_of(1),
-    };
+    let (first, second) = s.wires.rims();
     let vertices = s.vertices.table();
     let edges = s.edges.table();
     let found = correction::nearest_correction(&vertices, &edges, &first, &second, 0)?;
@@ -51,7 +52,9 @@ pub fn nearest_ends(rt: &impl Print, s: &Shell) -> Result<Ends, Stop> {
 }
 
 // The two vertices that divide the wire that uses the seam twice.
-pub fn search(rt: &impl Print, s: &Shell) -> Result<Ends, Stop> {
+pub fn search(rt: &impl Print, s: &Shell) -> Result<Ends, Stop>
+    ensures { IfOk result (λ ends. Answered (divisor_said s.now) ends) }
+{
     print!(rt; "6. non-simple search:")?;
     let vertices = s.vertices.table();
     let edges = s.edges.table();

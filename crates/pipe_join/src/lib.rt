@@ -2,25 +2,20 @@
 #![tactic(auto)]
 
 ghost use Rattle.std.specs.Prelude.{◌≡◌, IfOk};
+ghost use Rattle.pipe_join.specs.Steps.{join_of, Joined};
 
-use join::OpenWire;
 use nearest::Ends;
 use pipe_shell::{Shell, Stop, Wires, writing};
 use rows::lent::WiresMut;
 
 // Joins the two rims with the seam's wire, which the shell has now.
+// The wires to write are put together here: after a loan by a method nothing is known of what the shell holds, and `joined` fails.
 pub fn join_rims(rt: &impl Print, rims: &Wires, s: &Shell, d: Ends) -> Result<Shell, Stop>
-    ensures { IfOk result (λ left. (left.vertices ≡ s.now.vertices) × (left.edges ≡ s.now.edges)) }
+    ensures same { IfOk result (λ left. (left.vertices ≡ s.now.vertices) × (left.edges ≡ s.now.edges)) }
+    ensures joined { IfOk result (λ left. Joined (join_of rims.now s.now d) left) }
 {
     print!(rt; "5. join:")?;
-    let first = OpenWire {
-        uses: &rims.uses,
-        count: rims.length_of(0),
-    };
-    let second = OpenWire {
-        uses: rims.second(),
-        count: rims.length_of(1),
-    };
+    let (first, second) = rims.rims();
     let mut left = *s;
     let joined = join::connect_open_boundaries(
         s.vertices.count,

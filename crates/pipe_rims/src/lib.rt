@@ -3,23 +3,22 @@
 #![tactic(auto)]
 
 ghost use Rattle.std.specs.Prelude.{◌≡◌, IfOk};
+ghost use Rattle.pipe_rims.specs.Steps.{pass_of, Passed};
 
 use pipe_shell::{Shell, Stop, writing};
 use rows::lent::WiresMut;
 use rows::tables::TableMut;
 
 // Cuts the rims; a host evaluates the points of the new vertices.
+// The edges and wires to write are put together here: after a loan by a method nothing is known of what the shell holds, and `passed` fails.
 pub fn cut_rims(rt: &impl Print, s: &Shell) -> Result<Shell, Stop>
-    ensures { IfOk result (λ left. left.wires.count ≡ s.now.wires.count) }
+    ensures same { IfOk result (λ left. left.wires.count ≡ s.now.wires.count) }
+    ensures passed { IfOk result (λ left. Passed (pass_of s.now) left) }
 {
     print!(rt; "1. closed-edge pass:")?;
     let mut left = *s;
     let counts = split_closed_edges::split_closed_edges(
-        &mut TableMut::new(
-            &mut left.vertices.numbers,
-            &mut left.vertices.floats,
-            s.vertices.count,
-        ),
+        &mut left.vertices.table_mut(),
         &mut TableMut::new(
             &mut left.edges.numbers,
             &mut left.edges.floats,

@@ -3,7 +3,9 @@
 #![tactic(auto)]
 
 ghost use Rattle.std.specs.Prelude.{◌≡◌, IfOk};
+ghost use Rattle.pipe_seam.specs.Steps.{SplitAlong};
 
+use compress::Refusal;
 use nearest::Ends;
 use pipe_shell::{Shell, Stop, Wires, writing};
 use rows::lent;
@@ -11,17 +13,20 @@ use rows::tables::TableMut;
 use seams::Divisor;
 
 // The uv points of the two vertices: the second's is the copy of it that is nearest to the first's.
-fn seam_points(d: Ends) -> [f64; 4] {
+fn seam_points(d: Ends) -> Result<[f64; 4], Refusal> {
     let p = pipe_shell::uv_of(d.v0);
     let q = pipe_shell::uv_of(d.v1);
-    let near = periodic::nearest_copy(p, q, Some(pipe_shell::TURN), None).unwrap_or(q);
-    [p.u, p.v, near.u, near.v]
+    let near = periodic::nearest_copy(p, q, Some(pipe_shell::TURN), None)?;
+    Ok([p.u, p.v, near.u, near.v])
 }
 
 // Splits the face along the seam between two vertices, with so many of its wires, from the first on, to be rebuilt.
+// The table to write is put together here: after a loan by `table_mut` nothing is known of what the shell's table holds, and `outcome` fails.
 fn split_along(rt: &impl Print, s: &Shell, d: Ends, rebuilt: usize) -> Result<Shell, Stop>
-    ensures { IfOk result (λ left. left.vertices ≡ s.now.vertices) }
+    ensures same { IfOk result (λ left. left.vertices ≡ s.now.vertices) }
+    ensures outcome { IfOk result (λ left. SplitAlong s.now d rebuilt left) }
 {
+    let points = seam_points(d)?;
     let none = Wires {
         uses: [0; 8],
         lengths: [0; 8],
@@ -43,7 +48,7 @@ fn split_along(rt: &impl Print, s: &Shell, d: Ends, rebuilt: usize) -> Result<Sh
         },
         &Divisor {
             vertices: &[d.v0, d.v1],
-            points: &seam_points(d),
+            points: &points,
             count: 2,
         },
         &mut left.wires.uses,
@@ -59,7 +64,8 @@ fn split_along(rt: &impl Print, s: &Shell, d: Ends, rebuilt: usize) -> Result<Sh
 
 // Splits with the seam between the rims. Both rims are open, so that no wire is to be rebuilt.
 pub fn split_seam(rt: &impl Print, s: &Shell, d: Ends) -> Result<Shell, Stop>
-    ensures { IfOk result (λ left. left.vertices ≡ s.now.vertices) }
+    ensures same { IfOk result (λ left. left.vertices ≡ s.now.vertices) }
+    ensures outcome { IfOk result (λ left. SplitAlong s.now d 0 left) }
 {
     print!(rt; "4. split with the seam:")?;
     split_along(rt, s, d, 0)
@@ -67,7 +73,8 @@ pub fn split_seam(rt: &impl Print, s: &Shell, d: Ends) -> Result<Shell, Stop>
 
 // Splits along the vertices that the search has found. All wires are to be rebuilt.
 pub fn split_again(rt: &impl Print, s: &Shell, d: Ends) -> Result<Shell, Stop>
-    ensures { IfOk result (λ left. left.vertices ≡ s.now.vertices) }
+    ensures same { IfOk result (λ left. left.vertices ≡ s.now.vertices) }
+    ensures outcome { IfOk result (λ left. SplitAlong s.now d s.now.wires.count left) }
 {
     print!(rt; "7. second split:")?;
     split_along(rt, s, d, s.wires.count)

@@ -3,12 +3,13 @@
 
 pub mod writing;
 
-ghost use Rattle.std.specs.Prelude.{◌≡◌, drop, get_or};
+ghost use Rattle.std.specs.Prelude.{◌≡◌, drop, get_or, replicate};
 
 use compress::{Curve, Edge, Refusal, Uv, Vertex};
 use rows::lent;
-use rows::tables::{Table, TableMut};
+use rows::tables::{Row, Table, TableMut};
 use std::io;
+use std::marker::PhantomData;
 
 // Once round the pipe.
 pub const TURN: f64 = 6.283185307179586;
@@ -17,23 +18,22 @@ const HALF_TURN: f64 = 3.141592653589793;
 
 const HEIGHT: f64 = 4.0;
 
-// The vertices, with room for those of the cut rims.
+// A table of records with its cells. The arrays have a count and are no ArrayVec: a call is lent them whole, and writes rows past the count.
 #[derive(Clone, Copy)]
-pub struct Vertices {
-    pub numbers: [u32; 12],
-    pub floats: [f64; 28],
+pub struct Owned<R, const N: usize, const F: usize> {
+    pub numbers: [u32; N],
+    pub floats: [f64; F],
     pub count: usize,
+    pub of: PhantomData<R>,
 }
+
+// The vertices, with room for those of the cut rims.
+pub type Vertices = Owned<Vertex, 12, 28>;
 
 // The edges, with room for the halves of the rims and for two seams.
-#[derive(Clone, Copy)]
-pub struct Edges {
-    pub numbers: [u32; 24],
-    pub floats: [f64; 36],
-    pub count: usize,
-}
+pub type Edges = Owned<Edge, 24, 36>;
 
-// Wires, with room for every use of the last step.
+// Wires, with room for every use of the last step: arrays with a count, since a call is lent them whole, as those of a table.
 #[derive(Clone, Copy)]
 pub struct Wires {
     pub uses: [u32; 8],
@@ -82,25 +82,39 @@ impl From<io::Error> for Stop {
     }
 }
 
-impl Vertices {
-    // The vertices as a call is lent them.
-    pub fn table(&self) -> Table<'_, Vertex>
+impl<R: Row, const N: usize, const F: usize> Owned<R, N, F> {
+    // So many rows, with 0 in every cell.
+    pub fn zeros(count: usize) -> Owned<R, N, F>
+        ensures numbers_value { result.numbers ≡ replicate N 0 }
+        ensures count_value { result.count ≡ count }
+    {
+        Owned {
+            numbers: [0; N],
+            floats: [0.0; F],
+            count,
+            of: PhantomData,
+        }
+    }
+
+    // The table as a call is lent it, to be read.
+    pub fn table(&self) -> Table<'_, R>
         ensures numbers_value { result.numbers.now ≡ self.now.numbers }
         ensures floats_value { result.floats.now ≡ self.now.floats }
         ensures count_value { result.count ≡ self.now.count }
     {
         Table::new(&self.numbers, &self.floats, self.count)
     }
-}
 
-impl Edges {
-    // The edges as a call is lent them.
-    pub fn table(&self) -> Table<'_, Edge>
-        ensures numbers_value { result.numbers.now ≡ self.now.numbers }
-        ensures floats_value { result.floats.now ≡ self.now.floats }
-        ensures count_value { result.count ≡ self.now.count }
+    // The table as a call is lent it, to be written.
+    pub fn table_mut(&mut self) -> TableMut<'_, R>
+        ensures numbers_value { result.numbers.now ≡ self.old.numbers }
+        ensures floats_value { result.floats.now ≡ self.old.floats }
+        ensures count_value { result.count ≡ self.old.count }
     {
-        Table::new(&self.numbers, &self.floats, self.count)
+        let count = self.count;
+        let numbers = &mut self.numbers;
+        let floats = &mut self.floats;
+        TableMut::new(&mut numbers[..], &mut floats[..], count)
     }
 }
 
@@ -119,17 +133,34 @@ impl Wires {
     }
 
     // The length of wire k.
-    pub fn length_of(&self, k: usize) -> usize
+    fn length_of(&self, k: usize) -> usize
         ensures { result ≡ get_or self.now.lengths k 0 }
     {
         notation::at(&self.lengths, k) as usize
     }
 
     // The uses of the second wire, and what stands behind them.
-    pub fn second(&self) -> &[u32]
+    fn second(&self) -> &[u32]
         ensures { result.now ≡ drop (get_or self.now.lengths 0 0) self.now.uses }
     {
         notation::past(&self.uses, self.length_of(0))
+    }
+
+    // The first two wires as a call is lent them: the rims of the pipe.
+    pub fn rims(&self) -> (lent::Stretch<'_>, lent::Stretch<'_>)
+        ensures first { let w = self.now in (result.0.uses.now ≡ w.uses) × (result.0.count ≡ get_or w.lengths 0 0) }
+        ensures second { let w = self.now in
+            (result.1.uses.now ≡ drop (get_or w.lengths 0 0) w.uses) × (result.1.count ≡ get_or w.lengths 1 0) }
+    {
+        let first = lent::Stretch {
+            uses: &self.uses,
+            count: self.length_of(0),
+        };
+        let second = lent::Stretch {
+            uses: self.second(),
+            count: self.length_of(1),
+        };
+        (first, second)
     }
 }
 
@@ -146,15 +177,12 @@ fn point_of(v: usize) -> Vertex {
 pub fn given(count: usize) -> Vertices
     ensures { result.count ≡ count }
 {
-    let mut vertices = Vertices {
-        numbers: [0; 12],
-        floats: [0.0; 28],
-        count,
-    };
-    let mut table = TableMut::new(&mut vertices.numbers, &mut vertices.floats, 4);
+    let mut vertices = Vertices::zeros(4);
+    let mut table = vertices.table_mut();
     for v in 0..4 {
         table.put(v, point_of(v));
     }
+    vertices.count = count;
     vertices
 }
 
@@ -173,12 +201,8 @@ fn rim(number: u32) -> Edge {
 
 // The rims 0 = (0, 0) and 1 = (1, 1).
 fn rims() -> Edges {
-    let mut edges = Edges {
-        numbers: [0; 24],
-        floats: [0.0; 36],
-        count: 2,
-    };
-    let mut table = TableMut::new(&mut edges.numbers, &mut edges.floats, 2);
+    let mut edges = Edges::zeros(2);
+    let mut table = edges.table_mut();
     table.put(0, rim(0));
     table.put(1, rim(1));
     edges

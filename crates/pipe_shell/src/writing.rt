@@ -2,7 +2,7 @@
 use crate::{Edges, Shell, Stop, Wires};
 use std::io;
 
-// The end of the line of the step at which the way ends.
+// The end of the line of the step at which the way ends. No Display: one stop has no text and no end of a line, and one is an error of writing.
 pub fn write_stop(rt: &impl Print, stop: Stop) -> io::Result<()> {
     match stop {
         Stop::Refused(r) => {
@@ -34,10 +34,7 @@ fn write_edges(rt: &impl Print, edges: &Edges, from: usize) -> io::Result<()> {
 
 // The wires, a stroke between them.
 pub fn write_wires(rt: &impl Print, w: &Wires) -> io::Result<()> {
-    let wires = notation::Wires {
-        uses: &w.uses,
-        lengths: notation::first(&w.lengths, w.count),
-    };
+    let wires = notation::Wires(w.lent());
     println!(rt; "   wires{wires}")
 }
 

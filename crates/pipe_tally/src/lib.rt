@@ -8,10 +8,9 @@ use std::io;
 // How many uses the six edges of the table have, both directions.
 const USES: u32 = 12;
 
-// The uses of all wires.
+// The uses of all wires, or none where they are not there.
 fn uses_of(w: &Wires) -> &[u32] {
-    let total = checks::total_uses(notation::first(&w.lengths, w.count));
-    notation::first(&w.uses, total)
+    w.lent().lent_uses().unwrap_or(&[])
 }
 
 // Each use that is among these, and how often.
@@ -52,12 +51,10 @@ fn write_contour(rt: &impl Print, k: usize, uses: &[u32]) -> io::Result<()> {
 }
 
 // The contours, each with its tally.
+#[tactic(auto, using(compress::proofs::Wires::length_wires))]
 pub fn write_contours(rt: &impl Print, s: &Shell) -> io::Result<()> {
-    let lengths = notation::first(&s.wires.lengths, s.wires.count);
-    let mut rest: &[u32] = &s.wires.uses;
-    for (k, &n) in lengths.iter().enumerate() {
-        write_contour(rt, k, notation::first(rest, n as usize))?;
-        rest = notation::past(rest, n as usize);
+    for (k, uses) in s.wires.lent().each().enumerate() {
+        write_contour(rt, k, uses)?;
     }
     Ok(())
 }

@@ -6,17 +6,16 @@
 // list, of altered records: in each, one word of what the call answered and left is another, so none of them is the same.
 #![tactic(auto)]
 
-ghost use Rattle.std.specs.Prelude.{◌≡◌};
-ghost use Rattle.stored.specs.Compared.{Remembers};
+ghost use Rattle.stored.specs.Compared.{Compares};
 
 use replay_numbers::sorting;
 use replay_tally::{Part, Run};
 use stored::{Damaged, Reader};
 
 // Replays the call with this number. A list with any other number is damaged.
+// The numbers are matched where they are read, since each arm reads another record: an enum of the calls would only be a second list.
 fn replay(list: &mut Reader<'_>, number: u64) -> Result<(), Damaged>
-    ensures remembers { Remembers list.old list.new }
-    ensures buf_value { list.new.buf.now ≡ list.old.buf.now }
+    ensures compares { Compares list.old list.new }
 {
     match number {
         1 => replay_pass::replay_pass(list),
@@ -46,8 +45,8 @@ fn step(list: &mut Reader<'_>, run: &mut Run) -> Result<(), Damaged> {
     Ok(())
 }
 
-// Replays both lists. A proved loop has to end, and nothing says that a list does, so the loop has a number of turns that no run
-// uses up.
+// Replays both lists.
+// The turns have a number, which no run uses up: a proved loop has to end, and `forever` brings the bound Wait, which is not allowed here.
 fn replay_lists(list: &mut Reader<'_>, run: &mut Run) -> Result<(), Damaged> {
     for _ in 0..u64::MAX {
         if run.part == Part::Ended {
@@ -58,11 +57,17 @@ fn replay_lists(list: &mut Reader<'_>, run: &mut Run) -> Result<(), Damaged> {
     Ok(())
 }
 
-fn main() {
+// Replays the lists, and writes the tallies, or where the list is damaged.
+fn write_replay(rt: &impl Print) -> std::io::Result<()> {
     let mut buf = io::large_buffer();
     let mut run = Run::new();
     match replay_lists(&mut Reader::new(&mut buf), &mut run) {
-        Ok(()) => run.write(),
-        Err(Damaged) => run.write_damage(),
+        Ok(()) => run.write(rt),
+        Err(Damaged) => run.write_damage(rt),
     }
+}
+
+// A write that fails ends the program, and is not told.
+fn main(rt: HostRuntime) {
+    let _ = write_replay(&rt);
 }

@@ -10,11 +10,17 @@ more n = min (n + 1) 18446744073709551615
 
 -- the tally with one more call
 abbrev pub counted : Tally → Bool → Tally
-counted t true = record { calls = more t.calls; same = more t.same }
-counted t false = record { calls = more t.calls; same = t.same }
+counted t true = record { name = t.name; calls = more t.calls; same = more t.same }
+counted t false = record { name = t.name; calls = more t.calls; same = t.same }
 
 -- the altered records come behind the stored ones, and behind them nothing
 abbrev pub part_behind : Part → Part
 part_behind Stored = Altered
 part_behind Altered = Ended
 part_behind Ended = Ended
+
+-- the tally of the altered records after a record of a list: stored records leave it alone
+abbrev pub altered_after : Part → Tally → Bool → Tally
+altered_after Stored t same = t
+altered_after Altered t same = counted t same
+altered_after Ended t same = counted t same

@@ -3,34 +3,31 @@
 
 ghost use Rattle.std.specs.Prelude.{◌≡◌};
 ghost use Rattle.replay_tally.specs.declared.Part.TheVariants.{Stored};
-ghost use Rattle.replay_tally.specs.Parts.{counted, part_behind};
+ghost use Rattle.replay_tally.specs.Parts.{altered_after, counted, part_behind};
 
-// The descriptor of standard output.
-const STDOUT_FILENO: i32 = 1;
+use std::{fmt, io};
 
-// How many tallies there are: one for all altered records, and one for each kind of call, in the place of its number.
-const TALLIES: usize = 11;
-
-// The place of the tally of the altered records. No kind of call has this number.
-const ALTERED: usize = 0;
+// How many kinds of calls there are.
+const CALLS: usize = 10;
 
 // The names of the calls, in the order of their numbers from 1.
-const NAMES: [&[u8]; TALLIES - 1] = [
-    b"split_closed_edges",
-    b"get_mindiff",
-    b"nearest_copy",
-    b"boundary_type",
-    b"sort_wires",
-    b"nearest_correction",
-    b"find_non_simple_wire_divisor",
-    b"cut_edge_by_intersections",
-    b"connect_open_boundaries",
-    b"split_boundaries_by_divisor",
+const NAMES: [&str; CALLS] = [
+    "split_closed_edges",
+    "get_mindiff",
+    "nearest_copy",
+    "boundary_type",
+    "sort_wires",
+    "nearest_correction",
+    "find_non_simple_wire_divisor",
+    "cut_edge_by_intersections",
+    "connect_open_boundaries",
+    "split_boundaries_by_divisor",
 ];
 
-// How many calls were replayed, and how many of them answered and left the same.
+// How many calls of a name were replayed, and how many of them answered and left the same.
 #[derive(Clone, Copy)]
 pub struct Tally {
+    pub name: &'static str,
     pub calls: u64,
     pub same: u64,
 }
@@ -43,15 +40,26 @@ pub enum Part {
     Ended,
 }
 
-// How far the replay is: the number of the next record from 1, the tallies, and which list is being replayed.
+// How far the replay is: the number of the next record from 1, a tally for each kind of call, one for all altered records, and
+// which list is being replayed.
 #[derive(Clone, Copy)]
 pub struct Run {
     pub record: u64,
-    pub tallies: [Tally; TALLIES],
+    pub tallies: [Tally; CALLS],
+    pub altered: Tally,
     pub part: Part,
 }
 
 impl Tally {
+    // The tally before anything is counted.
+    fn of(name: &'static str) -> Tally {
+        Tally {
+            name,
+            calls: 0,
+            same: 0,
+        }
+    }
+
     // One more call.
     fn count(&mut self, is_same: bool)
         ensures { self.new ≡ counted self.old is_same }
@@ -63,6 +71,13 @@ impl Tally {
     }
 }
 
+impl fmt::Display for Tally {
+    fn fmt<W: fmt::Write>(&self, f: &mut fmt::Formatter<W>) -> fmt::Result {
+        let Tally { name, calls, same } = *self;
+        write!(f, "{name}: {calls} calls, {same} same")
+    }
+}
+
 impl Run {
     // The run before anything is read.
     pub fn new() -> Run
@@ -70,7 +85,8 @@ impl Run {
     {
         Run {
             record: 1,
-            tallies: [Tally { calls: 0, same: 0 }; TALLIES],
+            tallies: NAMES.map(Tally::of),
+            altered: Tally::of("altered"),
             part: Part::Stored,
         }
     }
@@ -79,6 +95,7 @@ impl Run {
     pub fn end_list(&mut self)
         ensures part_after { self.new.part ≡ part_behind self.old.part }
         ensures tallies_value { self.new.tallies ≡ self.old.tallies }
+        ensures altered_value { self.new.altered ≡ self.old.altered }
         ensures record_value { self.new.record ≡ self.old.record }
     {
         self.part = match self.part {
@@ -89,43 +106,33 @@ impl Run {
 
     // One more call with this number is counted. The altered records have a tally of their own.
     pub fn count(&mut self, number: u64, is_same: bool)
-        ensures { self.new.part ≡ self.old.part }
+        ensures part_value { self.new.part ≡ self.old.part }
+        ensures altered_value { self.new.altered ≡ altered_after self.old.part self.old.altered is_same }
     {
-        let tally = match self.part {
-            Part::Stored => number as usize,
-            Part::Altered | Part::Ended => ALTERED,
-        };
-        if tally < TALLIES {
-            self.tallies[tally].count(is_same);
+        match self.part {
+            Part::Stored => {
+                if let Some(k) = number.checked_sub(1)
+                    && let Some(tally) = self.tallies.get_mut(k as usize)
+                {
+                    tally.count(is_same);
+                }
+            }
+            Part::Altered | Part::Ended => self.altered.count(is_same),
         }
         self.record = self.record.saturating_add(1);
     }
 
     // Writes how many calls answered the same: a line for each kind of call, and one for the altered records.
-    pub fn write(&self) {
-        for (k, name) in NAMES.iter().enumerate() {
-            write_tally(name, self.tallies[k + 1]);
+    pub fn write(&self, rt: &impl Print) -> io::Result<()> {
+        for tally in &self.tallies {
+            println!(rt; "{tally}")?;
         }
-        write_tally(b"altered", self.tallies[ALTERED]);
+        rt.println(self.altered)
     }
 
     // Writes at which record the list is damaged.
-    pub fn write_damage(&self) {
-        io::write_all(STDOUT_FILENO, b"the list is damaged at record ");
-        write_count(self.record, b"\n");
+    pub fn write_damage(&self, rt: &impl Print) -> io::Result<()> {
+        let number = self.record;
+        println!(rt; "the list is damaged at record {number}")
     }
-}
-
-// Writes a count, and a text behind it.
-fn write_count(n: u64, s: &[u8]) {
-    io::print_decimal(STDOUT_FILENO, n);
-    io::write_all(STDOUT_FILENO, s);
-}
-
-// Writes the line of a tally.
-fn write_tally(name: &[u8], t: Tally) {
-    io::write_all(STDOUT_FILENO, name);
-    io::write_all(STDOUT_FILENO, b": ");
-    write_count(t.calls, b" calls, ");
-    write_count(t.same, b" same\n");
 }

@@ -1,1 +1,3 @@
 pub mod Same
+pub mod Each
+pub mod Room

@@ -4,12 +4,12 @@
 pub mod lent;
 pub mod tables;
 
-ghost use Rattle.std.specs.Prelude.{◌≡◌, ◌++◌, ◌+◌, ◌*◌, ◌≤◌, length, take, drop};
+ghost use Rattle.std.specs.Prelude.{◌≡◌, ◌++◌, ◌+◌, ◌*◌, ◌≤◌, length, drop};
 ghost use Rattle.std.proofs.lemmas.List.Edits.{sets};
 ghost use Rattle.compress.specs.Records.{kind_of, number_of};
 ghost use Rattle.compress.specs.Layout.{put};
-ghost use Rattle.compress.specs.Shell.{edges_fit, uses_fit};
-ghost use Rattle.compress.specs.Rows.{curve_first, curve_cells, edge_number_layout, edge_float_layout, vertex_number_layout, vertex_float_layout};
+ghost use Rattle.compress.specs.Shell.{uses_fit};
+ghost use Rattle.compress.specs.Rows.{HasRow, curve_first, curve_cells, edge_number_layout, edge_float_layout, vertex_number_layout, vertex_float_layout};
 
 use compress::{Curve, Edge, Vertex};
 
@@ -19,18 +19,8 @@ fn kind_of(c: Curve) -> u32
     ensures { result ≡ kind_of c }
 {
     match c {
-        Curve::Span {
-            number: _,
-            t0: _,
-            t1: _,
-        } => 0,
-        Curve::Seam {
-            surface: _,
-            p: _,
-            q: _,
-            t0: _,
-            t1: _,
-        } => 1,
+        Curve::Span { .. } => 0,
+        Curve::Seam { .. } => 1,
     }
 }
 
@@ -38,18 +28,8 @@ fn number_of(c: Curve) -> u32
     ensures { result ≡ number_of c }
 {
     match c {
-        Curve::Span {
-            number,
-            t0: _,
-            t1: _,
-        } => number,
-        Curve::Seam {
-            surface,
-            p: _,
-            q: _,
-            t0: _,
-            t1: _,
-        } => surface,
+        Curve::Span { number, .. } => number,
+        Curve::Seam { surface, .. } => surface,
     }
 }
 
@@ -59,17 +39,11 @@ fn put_curve(floats: &mut [f64], j: usize, c: Curve)
     ensures { floats.new ≡ sets floats.old (j + curve_first c) (curve_cells c) }
 {
     match c {
-        Curve::Span { number: _, t0, t1 } => {
+        Curve::Span { t0, t1, .. } => {
             floats[j + 4] = t0;
             floats[j + 5] = t1;
         }
-        Curve::Seam {
-            surface: _,
-            p,
-            q,
-            t0,
-            t1,
-        } => {
+        Curve::Seam { p, q, t0, t1, .. } => {
             floats[j] = p.u;
             floats[j + 1] = p.v;
             floats[j + 2] = q.u;
@@ -82,7 +56,7 @@ fn put_curve(floats: &mut [f64], j: usize, c: Curve)
 
 // The edge e is written to row i.
 pub fn put_edge(numbers: &mut [u32], floats: &mut [f64], i: usize, e: Edge)
-    requires { (i * 4 + 4 ≤ length numbers.old) × (i * 6 + 6 ≤ length floats.old) }
+    requires { HasRow 4 6 numbers.old floats.old i }
     ensures numbers_after { numbers.new ≡ put edge_number_layout numbers.old i e }
     ensures floats_after { floats.new ≡ put edge_float_layout floats.old i e }
 {
@@ -101,10 +75,10 @@ fn put_vertex_numbers(numbers: &mut [u32], i: usize, v: Vertex)
 {
     let a = i * 3;
     match v {
-        Vertex::Given { x: _, y: _, z: _ } => {
+        Vertex::Given { .. } => {
             numbers[a] = 0;
         }
-        Vertex::Pending { curve, t: _ } => {
+        Vertex::Pending { curve, .. } => {
             numbers[a] = 1;
             numbers[a + 1] = kind_of(curve);
             numbers[a + 2] = number_of(curve);
@@ -132,7 +106,7 @@ fn put_vertex_floats(floats: &mut [f64], i: usize, v: Vertex)
 
 // The vertex v is written to row i.
 pub fn put_vertex(numbers: &mut [u32], floats: &mut [f64], i: usize, v: Vertex)
-    requires { (i * 3 + 3 ≤ length numbers.old) × (i * 7 + 7 ≤ length floats.old) }
+    requires { HasRow 3 7 numbers.old floats.old i }
     ensures numbers_after { numbers.new ≡ put vertex_number_layout numbers.old i v }
     ensures floats_after { floats.new ≡ put vertex_float_layout floats.old i v }
 {
@@ -141,18 +115,6 @@ pub fn put_vertex(numbers: &mut [u32], floats: &mut [f64], i: usize, v: Vertex)
 }
 
 // ---- room for a result
-
-// n edges are within their bound, and a place is lent for each.
-pub fn edges_fit(numbers: &[u32], floats: &[f64], n: usize) -> bool
-    ensures { result ≡ edges_fit numbers.now floats.now n }
-{
-    if n > 4096 {
-        return false;
-    }
-    let a = n * 4 <= numbers.len();
-    let b = n * 6 <= floats.len();
-    a & b
-}
 
 // n uses are within their bound, and a place is lent for each.
 pub fn uses_fit(uses: &[u32], n: usize) -> bool
@@ -165,10 +127,10 @@ pub fn uses_fit(uses: &[u32], n: usize) -> bool
 
 // ---- runs of numbers
 
-// The first n numbers of `from` are written over the first n of `to`.
-pub fn copy(from: &[u32], n: usize, to: &mut [u32])
-    requires { (n ≤ length from.now) × (n ≤ length to.old) }
-    ensures { to.new ≡ take n from.now ++ drop n to.old }
+// The numbers of `from` are written over the front of `to`.
+pub fn copy(from: &[u32], to: &mut [u32])
+    requires { length from.now ≤ length to.old }
+    ensures { to.new ≡ from.now ++ drop (length from.now) to.old }
 {
-    to[..n].copy_from_slice(&from[..n]);
+    to[..from.len()].copy_from_slice(from);
 }

@@ -1,8 +1,8 @@
 // Tables of records, as a host lends them: a slice of numbers, a slice of floats, and how many rows they are said to hold.
-ghost use Rattle.std.specs.Prelude.{◌≡◌, ℕ, List, Float, ◌+◌, ◌*◌, ◌/◌, ◌≤◌, length};
+ghost use Rattle.std.specs.Prelude.{◌≡◌, true, ℕ, List, Float, ◌+◌, ◌*◌, ◌/◌, ◌≤◌, ◌<◌, leb, length};
 ghost use Rattle.compress.specs.Layout.{Layout, put};
 ghost use Rattle.compress.specs.Records.{front_at};
-ghost use Rattle.compress.specs.Rows.{edge_at, edge_number_layout, edge_float_layout, vertex_at, vertex_number_layout, vertex_float_layout};
+ghost use Rattle.compress.specs.Rows.{HasRow, edge_at, edge_number_layout, edge_float_layout, vertex_at, vertex_number_layout, vertex_float_layout};
 ghost use Rattle.compress.specs.Shell.{rows_fit};
 ghost use Rattle.rows.specs.Places.{SameTable};
 ghost use Rattle.std.proofs.Common.{rules};
@@ -30,17 +30,19 @@ pub trait Row: Copy {
 
     // The record of row i.
     fn read(numbers: &[u32], floats: &[f64], i: usize) -> Self
-        requires { (i * NUMBERS + NUMBERS ≤ length numbers.now) × (i * FLOATS + FLOATS ≤ length floats.now) }
+        requires { HasRow NUMBERS FLOATS numbers.now floats.now i }
         ensures { result ≡ row_at numbers.now floats.now i };
 
     // The record is written to row i.
     fn write(self, numbers: &mut [u32], floats: &mut [f64], i: usize)
-        requires { (i * NUMBERS + NUMBERS ≤ length numbers.old) × (i * FLOATS + FLOATS ≤ length floats.old) }
+        requires { HasRow NUMBERS FLOATS numbers.old floats.old i }
         ensures numbers_after { numbers.new ≡ put number_layout numbers.old i self }
         ensures floats_after { floats.new ≡ put float_layout floats.old i self };
 
-    // A row is short.
+    // A row is short, and has cells of both kinds.
     ghost short: { (NUMBERS ≤ 8) × (FLOATS ≤ 8) };
+
+    ghost filled: { (0 < NUMBERS) × (0 < FLOATS) };
 }
 
 impl Row for Edge {
@@ -67,6 +69,8 @@ impl Row for Edge {
     }
 
     ghost short = { Prim.search rules };
+
+    ghost filled = { Prim.search rules };
 }
 
 impl Row for Vertex {
@@ -93,6 +97,8 @@ impl Row for Vertex {
     }
 
     ghost short = { Prim.search rules };
+
+    ghost filled = { Prim.search rules };
 }
 
 // A table, to be read. Nothing is checked of it here.
@@ -120,7 +126,7 @@ impl<'a, R: Row> Table<'a, R> {
 
     // The record of row i.
     pub fn at(&self, i: usize) -> R
-        requires { (i * R.NUMBERS + R.NUMBERS ≤ length self.now.numbers.now) × (i * R.FLOATS + R.FLOATS ≤ length self.now.floats.now) }
+        requires { HasRow R.NUMBERS R.FLOATS self.now.numbers.now self.now.floats.now i }
         ensures { result ≡ R.row_at self.now.numbers.now self.now.floats.now i }
     {
         R::read(self.numbers, self.floats, i)
@@ -135,19 +141,36 @@ impl<'a, R: Row> Table<'a, R> {
         }
         n * R::NUMBERS <= self.numbers.len() && n * R::FLOATS <= self.floats.len()
     }
+
+    // How many rows there is room for behind those that the table is said to hold, until a slice or the bound is full.
+    pub fn room(&self) -> usize
+        requires { rows_fit R.NUMBERS R.FLOATS self.now.numbers.now self.now.floats.now self.now.count ≡ true }
+        ensures { (k : ℕ) → leb k result ≡ rows_fit R.NUMBERS R.FLOATS self.now.numbers.now self.now.floats.now (self.now.count + k) }
+    {
+        let rows = (self.numbers.len() / R::NUMBERS).min(self.floats.len() / R::FLOATS);
+        rows.min(4096) - self.count
+    }
 }
 
 impl Table<'_, Edge> {
     // The front of a use.
     pub fn front(&self, u: u32) -> u32
-        requires { (u / 2 * 4 + 4 ≤ length self.now.numbers.now) × (u / 2 * 6 + 6 ≤ length self.now.floats.now) }
+        requires { HasRow 4 6 self.now.numbers.now self.now.floats.now (u / 2) }
         ensures { result ≡ front_at (edge_at self.now.numbers.now self.now.floats.now) u }
     {
         compress::front_at(self.numbers, self.floats, u)
     }
 }
 
-// A table, to be written.
+// The vertices, and the edges between them, to be read.
+#[derive(Clone, Copy)]
+pub struct Tables<'a> {
+    pub vertices: Table<'a, Vertex>,
+    pub edges: Table<'a, Edge>,
+}
+
+// A table, to be written. A shell is two of these and wires, and no struct of the three: tried with one lifetime and with three, and at the end of
+// the loan the check did not know what the slices hold.
 #[derive(Drop)]
 pub struct TableMut<'a, R> {
     pub numbers: &'a mut [u32],
@@ -183,7 +206,7 @@ impl<'a, R: Row> TableMut<'a, R> {
 
     // The record is written to row i.
     pub fn put(&mut self, i: usize, record: R)
-        requires { (i * R.NUMBERS + R.NUMBERS ≤ length self.old.numbers.now) × (i * R.FLOATS + R.FLOATS ≤ length self.old.floats.now) }
+        requires { HasRow R.NUMBERS R.FLOATS self.old.numbers.now self.old.floats.now i }
         ensures numbers_after { self.new.numbers.now ≡ put R.number_layout self.old.numbers.now i «record» }
         ensures floats_after { self.new.floats.now ≡ put R.float_layout self.old.floats.now i «record» }
         ensures same { SameTable self.old self.new }

@@ -82,8 +82,8 @@ pub fn split_boundaries_by_divisor(
 {
     let lent = edges.view();
     split_causes::split_cause(vertices, &lent, face, rebuilt, divisor, uses, lengths)?;
-    let n = checks::total_uses(&face.lengths[..face.count]);
-    let m = checks::total_uses(&rebuilt.lengths[..rebuilt.count]);
+    let n = face.total_uses();
+    let m = rebuilt.total_uses();
     let stops = Divisor {
         vertices: &divisor.vertices[..divisor.count],
         points: divisor.points,

@@ -12,41 +12,27 @@ use rows::tables::Table;
 use seams::Divisor;
 
 // Cause 6: `count` uses, and as many lengths, and `n` edges have no room.
-#[tactic(auto, using(std::proofs::lemmas::Bool::Decides::nat_tests), unfolding(crate::specs::Causes::room_cause))]
+#[tactic(auto, using(std::proofs::lemmas::Bool::Decides::nat_tests), unfolding(crate::specs::Causes::room_cause, compress::specs::Shell::edges_fit, compress::specs::Shell::uses_fit))]
 fn room_cause(edges: &Table<Edge>, uses: &[u32], lengths: &[u32], count: usize, n: usize) -> Checked
     ensures { cause_of result ≡ room_cause
         (record { en = edges.now.numbers.now; ef = edges.now.floats.now; us = uses.now; ls = lengths.now }) count n }
 {
-    if count > 1024 || uses.len() < count || lengths.len() < count {
+    if !rows::uses_fit(uses, count) || lengths.len() < count {
         return Err(Refusal::NoRoom);
     }
-    let fits = rows::edges_fit(edges.numbers, edges.floats, n);
-    checks::cause_when(!fits, Refusal::NoRoom)
+    checks::cause_when(!edges.fits(n), Refusal::NoRoom)
 }
 
 // Causes 1 and 3 of the face's wires and of those to be rebuilt.
-#[tactic(auto, using(std::proofs::lemmas::Bool::Decides::nat_tests), unfolding(crate::specs::Causes::split_wires_cause))]
 fn split_wires_cause(edges: usize, face: &Wires, rebuilt: &Wires) -> Checked
     ensures { cause_of result ≡ split_wires_cause edges face.now.uses.now face.now.lengths.now face.now.count
         rebuilt.now.uses.now rebuilt.now.lengths.now rebuilt.now.count }
 {
-    if face.count > 64 || rebuilt.count > 64 - face.count {
-        return Err(Refusal::Malformed);
-    }
-    if face.lengths.len() < face.count || rebuilt.lengths.len() < rebuilt.count {
-        return Err(Refusal::Malformed);
-    }
-    let n = checks::total_uses(&face.lengths[..face.count]);
-    let m = checks::total_uses(&rebuilt.lengths[..rebuilt.count]);
-    if n > 1024 || m > 1024 - n {
-        return Err(Refusal::Malformed);
-    }
-    if face.uses.len() < n || rebuilt.uses.len() < m {
-        return Err(Refusal::Malformed);
-    }
-    let a = checks::uses(edges, &face.uses[..n]);
-    let b = checks::uses(edges, &rebuilt.uses[..m]);
-    checks::lower(a, b)
+    let old = face.lent_uses().ok_or(Refusal::Malformed)?;
+    let new = rebuilt.lent_uses().ok_or(Refusal::Malformed)?;
+    checks::count(64, face.count + rebuilt.count)?;
+    checks::count(1024, old.len() + new.len())?;
+    checks::lower(checks::uses(edges, old), checks::uses(edges, new))
 }
 
 // Causes 1 to 5, over all that is lent.
@@ -68,7 +54,8 @@ fn split_input_cause(
     checks::lower(v, checks::lower(e, checks::lower(w, s)))
 }
 
-// Every cause that is found before the walk. For any surface number.
+// Every cause that is found before the walk. For any surface number. The arguments are those of the call, in its order: a struct of them would be made
+// in one place, for two functions, and be no plainer.
 pub fn split_cause(
     vertices: usize,
     edges: &Table<Edge>,
@@ -83,7 +70,7 @@ pub fn split_cause(
 {
     split_input_cause(vertices, edges, face, rebuilt, divisor)?;
     let pairs = divisor.count / 2;
-    let n = checks::total_uses(&rebuilt.lengths[..rebuilt.count]) + pairs * 2;
+    let n = rebuilt.total_uses() + pairs * 2;
     room_cause(edges, uses, lengths, n, edges.count + pairs)?;
     seams::odd_cause(divisor.count)?;
     seams::repeat_cause(divisor, vertices)

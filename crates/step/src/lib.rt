@@ -2,6 +2,7 @@
 #![tactic(auto)]
 
 ghost use Rattle.std.specs.Prelude.{◌≡◌, ℕ, ◌/◌, ◌≤◌, ◌<◌, length, get_or};
+ghost use Rattle.compress.specs.Wires.{UsesBelow};
 ghost use Rattle.lists.specs.Ends.{marked_of};
 ghost use Rattle.lists.specs.Lists.{Tables};
 ghost use Rattle.step.specs.Arrival.{exactly_one, Went};
@@ -37,29 +38,24 @@ pub fn onward(
     requires in_table { v < 4096 }
     requires few { length uses.now ≤ 1024 }
     requires last_marked { last / 2 < length marks.now }
-    requires marked { (i : ℕ) → i < length uses.now → get_or uses.now i 0 / 2 < length marks.now }
+    requires marked { UsesBelow (length marks.now) uses.now }
     requires tables { Tables (length uses.now) lists.old.head lists.old.next }
     ensures { Went (marked_of marks.now) uses.now lists.old.head lists.old.next v last result lists.new.head lists.new.next }
 {
-    let p = match lists.head[v] {
-        0 => return Err(Refusal::DeadEnd),
-        1 => return Err(Refusal::EmptyList),
-        h => usize::from(h) - 2,
-    };
-    let m = lists.next[p];
-    if m == 0 {
-        lists.head[v] = 0;
+    let list = lists.list_of(v).ok_or(Refusal::DeadEnd)?;
+    let p = list.ok_or(Refusal::EmptyList)?;
+    let Some(a) = lists.place_before(p) else {
+        lists.set_last(v, None);
         return Ok(uses[p]);
-    }
-    let a = usize::from(m) - 1;
-    if lists.next[a] != 0 {
+    };
+    if lists.place_before(a).is_some() {
         return Err(Refusal::TooManyUses);
     }
     let first = uses[a];
     if takes_first(marks, last, first) {
-        lists.next[p] = 0;
+        lists.make_first(p);
         return Ok(first);
     }
-    lists.head[v] = m + 1;
+    lists.set_last(v, Some(a));
     Ok(uses[p])
 }

@@ -6,6 +6,14 @@ use Rattle.stored.specs.declared.Reader.{Reader}
 abbrev pub Remembers : Reader → Reader → Type 0
 Remembers before after = after.is_same ≡ true → before.is_same ≡ true
 
+-- reading keeps what was noted, and the buffer
+abbrev pub Keeps : Reader → Reader → Type 0
+Keeps before after = (after.is_same ≡ before.is_same) × (after.buf.now ≡ before.buf.now)
+
+-- comparing forgets no difference, and keeps the buffer
+abbrev pub Compares : Reader → Reader → Type 0
+Compares before after = Remembers before after × (after.buf.now ≡ before.buf.now)
+
 -- the four bytes from a place on as a number, the lowest first; past the end a byte is 0
 unfoldable pub half_at : List ℕ → ℕ → ℕ
 half_at s at = get_or s at 0 + get_or s (at + 1) 0 * 256 + get_or s (at + 2) 0 * 65536 + get_or s (at + 3) 0 * 16777216

@@ -1,45 +1,41 @@
 // Numbers, floats and buffers of them: read from the list, and compared with what stands there.
 #![tactic(auto)]
 
-ghost use Rattle.std.specs.Prelude.{◌≡◌, ◌≤◌, ℕ, Bool, eqb, take, IfOk, OnOk};
+ghost use Rattle.std.specs.Prelude.{◌≡◌, ◌≤◌, ℕ, Bool, eqb, length, IfOk, OnOk};
+ghost use Rattle.arrayvec.specs.ArrayVec.{array_vec_len};
 ghost use Rattle.std.specs.Float.{binary64};
 ghost use Rattle.std.specs.Float.Ieee.{nan_bits};
-ghost use Rattle.stored.specs.Compared.{Remembers, Tested};
-ghost use Rattle.stored_cells.specs.Fits.{Fits};
+ghost use Rattle.stored.specs.Compared.{Compares, Keeps, Tested};
 ghost use Rattle.stored_cells.specs.Floats.{float_of, has_pattern};
 
+use arrayvec::ArrayVec;
 use stored::{Damaged, MOST, Reader};
 
 // What a cell of a buffer holds: it stands in one word of the list.
-pub trait Cell: Copy {
+pub trait Cell: Copy + Default {
     // Is this the word of the value?
     ghost has_word: { Self → ℕ → Bool };
 
-    // What a cell holds before it is read.
-    const ZERO: Self;
-
     // Reads a value.
     fn next(list: &mut Reader<'_>) -> Result<Self, Damaged>
-        ensures is_same_value { list.new.is_same ≡ list.old.is_same }
-        ensures buf_value { list.new.buf.now ≡ list.old.buf.now };
+        ensures keeps { Keeps list.old list.new };
 
     // Reads a word and compares the value with the one that it stands for.
     fn compare(self, list: &mut Reader<'_>) -> Result<(), Damaged>
-        ensures remembers { Remembers list.old list.new }
-        ensures buf_value { list.new.buf.now ≡ list.old.buf.now }
+        ensures compares { Compares list.old list.new }
         ensures tested { OnOk result (Tested (has_word self) list.old list.new) };
 }
 
-// A buffer: the first `count` cells.
-#[derive(Clone, Copy)]
+// A buffer of a call.
+#[derive(Drop)]
 pub struct Buffer<T> {
-    pub cells: [T; MOST],
-    pub count: usize,
+    pub items: ArrayVec<T, MOST>,
 }
 
 // ---- floats
 
-// Is this the bit pattern of a NaN? Without its sign it then lies above that of infinity.
+// Is this the bit pattern of a NaN? Without its sign it then lies above that of infinity. Not `from_bits(bits).is_nan()`: `from_bits` asks for
+// the pattern of no NaN.
 fn is_nan_pattern(bits: u64) -> bool
     ensures { result ≡ nan_bits binary64 bits }
 {
@@ -51,7 +47,7 @@ fn float_of(bits: u64) -> f64
     ensures { result ≡ float_of bits }
 {
     if is_nan_pattern(bits) {
-        return 0.0 / 0.0;
+        return f64::NAN;
     }
     f64::from_bits(bits)
 }
@@ -60,16 +56,14 @@ fn float_of(bits: u64) -> f64
 fn has_pattern(x: f64, bits: u64) -> bool
     ensures { result ≡ has_pattern x bits }
 {
-    if x == x {
-        return f64::to_bits(x) == bits;
+    if x.is_nan() {
+        return is_nan_pattern(bits);
     }
-    is_nan_pattern(bits)
+    x.to_bits() == bits
 }
 
 impl Cell for f64 {
     ghost has_word = { has_pattern };
-
-    const ZERO: f64 = 0.0;
 
     fn next(list: &mut Reader<'_>) -> Result<f64, Damaged> {
         let bits = list.next()?;
@@ -88,8 +82,6 @@ impl Cell for f64 {
 impl Cell for u32 {
     ghost has_word = { λ n w. eqb w n };
 
-    const ZERO: u32 = 0;
-
     // A word above those of 32 bits is no number.
     fn next(list: &mut Reader<'_>) -> Result<u32, Damaged> {
         let word = list.next()?;
@@ -101,28 +93,38 @@ impl Cell for u32 {
     }
 }
 
+impl Cell for usize {
+    ghost has_word = { λ n w. eqb w n };
+
+    fn next(list: &mut Reader<'_>) -> Result<usize, Damaged> {
+        let word = list.next()?;
+        Ok(word as usize)
+    }
+
+    fn compare(self, list: &mut Reader<'_>) -> Result<(), Damaged> {
+        list.compare(self as u64)
+    }
+}
+
 // ---- buffers
 
 impl<T: Cell> Buffer<T> {
     // Reads a buffer of so many cells.
     pub fn fill(list: &mut Reader<'_>, count: usize) -> Result<Buffer<T>, Damaged>
         requires { count ≤ 64 }
-        ensures fits { IfOk result (λ b. Fits b × (b.count ≡ count)) }
-        ensures is_same_value { list.new.is_same ≡ list.old.is_same }
-        ensures buf_value { list.new.buf.now ≡ list.old.buf.now }
+        ensures count_value { IfOk result (λ b. array_vec_len b.items ≡ count) }
+        ensures keeps { Keeps list.old list.new }
     {
-        let mut cells = [T::ZERO; MOST];
-        for cell in &mut cells[..count] {
-            *cell = T::next(list)?;
+        let mut items = ArrayVec::new();
+        for _ in 0..count {
+            items.push(T::next(list)?);
         }
-        Ok(Buffer { cells, count })
+        Ok(Buffer { items })
     }
 
     // Reads a length and as many cells.
     pub fn read(list: &mut Reader<'_>) -> Result<Buffer<T>, Damaged>
-        ensures fits { IfOk result Fits }
-        ensures is_same_value { list.new.is_same ≡ list.old.is_same }
-        ensures buf_value { list.new.buf.now ≡ list.old.buf.now }
+        ensures keeps { Keeps list.old list.new }
     {
         let count = list.next_length()?;
         Buffer::fill(list, count)
@@ -130,17 +132,23 @@ impl<T: Cell> Buffer<T> {
 
     // The cells.
     pub fn cells(&self) -> &[T]
-        requires { Fits self.now }
-        ensures { result.now ≡ take self.now.count self.now.cells }
+        ensures value { result.now ≡ self.now.items.items }
+        ensures bound { length result.now ≤ 64 }
     {
-        &self.cells[..self.count]
+        self.items.as_slice()
+    }
+
+    // The cells, to be written.
+    pub fn cells_mut(&mut self) -> &mut [T]
+        ensures value { result.now ≡ self.old.items.items }
+        ensures bound { length result.now ≤ 64 }
+    {
+        self.items.as_mut_slice()
     }
 
     // Compares a buffer with the list.
     pub fn compare(&self, list: &mut Reader<'_>) -> Result<(), Damaged>
-        requires { Fits self.now }
-        ensures remembers { Remembers list.old list.new }
-        ensures buf_value { list.new.buf.now ≡ list.old.buf.now }
+        ensures compares { Compares list.old list.new }
     {
         for cell in self.cells() {
             cell.compare(list)?;

@@ -1,125 +1,90 @@
 // The answer of a call as the list has it, and its comparison.
-ghost use Rattle.std.specs.Prelude.{◌≡◌, get_or};
-ghost use Rattle.stored.specs.Compared.{Remembers};
-ghost use Rattle.stored_records.specs.Answers.{answer_if, answer_of, bare};
+ghost use Rattle.std.specs.Prelude.{◌≡◌};
+ghost use Rattle.compress.specs.Refusals.{refusal_number};
+ghost use Rattle.stored.specs.Compared.{Compares};
+ghost use Rattle.stored_records.specs.Answers.{IsAnswer, IsAnswerOrNone, IsBare, counts_told};
 
 use compress::{Counts, Refusal};
 use stored::{Damaged, Reader};
+use stored_cells::Cell;
 
 // The answer "none" of a call.
 const NONE: u64 = u64::MAX;
 
-// What a call told: up to three values, with zeros for those that it has not.
-#[derive(Clone, Copy)]
-pub struct Told {
-    pub first: u64,
-    pub second: u64,
-    pub third: u64,
-}
-
-// 0 with what the call told, or "none" or the number of the refusal with zeros.
-#[derive(Clone, Copy)]
-pub struct Answer {
+// 0 with what the call told, or "none" or the number of the refusal with zeros. No enum: these are the words of the stored list, which has
+// zeros for what a call has not told.
+#[derive(Drop)]
+pub struct Answer<T, const N: usize> {
     pub number: u64,
-    pub told: Told,
+    pub told: [T; N],
 }
 
-impl From<usize> for Told {
-    ghost from_gives = { λ n t. t ≡ record { first = n; second = 0; third = 0 } };
-
-    fn from(n: usize) -> Told {
-        Told {
-            first: n as u64,
-            second: 0,
-            third: 0,
-        }
-    }
-}
-
-impl From<[usize; 3]> for Told {
-    ghost from_gives = { λ n t. t ≡ record { first = get_or n 0 0; second = get_or n 1 0; third = get_or n 2 0 } };
-
-    fn from(n: [usize; 3]) -> Told {
-        Told {
-            first: n[0] as u64,
-            second: n[1] as u64,
-            third: n[2] as u64,
-        }
-    }
-}
-
-impl From<Counts> for Told {
-    ghost from_gives = { λ n t. t ≡ record { first = n.vertices; second = n.edges; third = n.uses } };
-
-    fn from(n: Counts) -> Told {
-        Told::from([n.vertices, n.edges, n.uses])
-    }
-}
-
-impl Answer {
+impl<T: Cell, const N: usize> Answer<T, N> {
     // The answer with no values.
-    fn with_none(number: u64) -> Answer
-        ensures { result ≡ bare number }
+    fn with_none(number: u64) -> Answer<T, N>
+        ensures { IsBare T.is_default N number result }
     {
         Answer {
             number,
-            told: Told {
-                first: 0,
-                second: 0,
-                third: 0,
-            },
+            told: Default::default(),
         }
     }
 
-    // Compares an answer that has one value.
-    pub fn compare_one(&self, list: &mut Reader<'_>) -> Result<(), Damaged>
-        ensures remembers { Remembers list.old list.new }
-        ensures buf_value { list.new.buf.now ≡ list.old.buf.now }
+    // The answer of a call that is refused.
+    fn refused(r: Refusal) -> Answer<T, N>
+        ensures { IsBare T.is_default N (refusal_number r) result }
+    {
+        Answer::with_none(u64::from(u32::from(r)))
+    }
+
+    // Compares an answer with the list.
+    pub fn compare(&self, list: &mut Reader<'_>) -> Result<(), Damaged>
+        ensures compares { Compares list.old list.new }
     {
         list.compare(self.number)?;
-        list.compare(self.told.first)
-    }
-
-    // Compares an answer that has two values.
-    pub fn compare_two(&self, list: &mut Reader<'_>) -> Result<(), Damaged>
-        ensures remembers { Remembers list.old list.new }
-        ensures buf_value { list.new.buf.now ≡ list.old.buf.now }
-    {
-        self.compare_one(list)?;
-        list.compare(self.told.second)
-    }
-
-    // Compares an answer that has three values.
-    pub fn compare_three(&self, list: &mut Reader<'_>) -> Result<(), Damaged>
-        ensures remembers { Remembers list.old list.new }
-        ensures buf_value { list.new.buf.now ≡ list.old.buf.now }
-    {
-        self.compare_two(list)?;
-        list.compare(self.told.third)
+        for told in &self.told {
+            told.compare(list)?;
+        }
+        Ok(())
     }
 }
 
 // The answer of a call that tells something or is refused.
-impl From<Result<Told, Refusal>> for Answer {
-    ghost from_gives = { λ r a. a ≡ answer_of r };
+impl<T: Cell, const N: usize> From<Result<[T; N], Refusal>> for Answer<T, N> {
+    ghost from_gives = { λ r a. IsAnswer T.is_default N r a };
 
-    fn from(answer: Result<Told, Refusal>) -> Answer {
+    fn from(answer: Result<[T; N], Refusal>) -> Answer<T, N> {
         match answer {
             Ok(told) => Answer { number: 0, told },
-            Err(r) => Answer::with_none(u64::from(u32::from(r))),
+            Err(r) => Answer::refused(r),
         }
     }
 }
 
 // The answer of a call that can also say "none".
-impl From<Result<Option<Told>, Refusal>> for Answer {
-    ghost from_gives = { λ r a. a ≡ answer_if r };
+impl<T: Cell, const N: usize> From<Result<Option<[T; N]>, Refusal>> for Answer<T, N> {
+    ghost from_gives = { λ r a. IsAnswerOrNone T.is_default N r a };
 
-    fn from(answer: Result<Option<Told>, Refusal>) -> Answer {
+    fn from(answer: Result<Option<[T; N]>, Refusal>) -> Answer<T, N> {
         match answer {
             Ok(Some(told)) => Answer { number: 0, told },
             Ok(None) => Answer::with_none(NONE),
-            Err(r) => Answer::with_none(u64::from(u32::from(r))),
+            Err(r) => Answer::refused(r),
+        }
+    }
+}
+
+// The answer of a call that tells three counts.
+impl From<Result<Counts, Refusal>> for Answer<usize, 3> {
+    ghost from_gives = { λ r a. IsAnswer (λ n. n ≡ 0) 3 (counts_told r) a };
+
+    fn from(answer: Result<Counts, Refusal>) -> Answer<usize, 3> {
+        match answer {
+            Ok(n) => Answer {
+                number: 0,
+                told: [n.vertices, n.edges, n.uses],
+            },
+            Err(r) => Answer::refused(r),
         }
     }
 }

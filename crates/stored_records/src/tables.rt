@@ -1,10 +1,11 @@
 // The buffers that calls share: a table of rows, two buffers of numbers, and the tables and wires of a shell.
-ghost use Rattle.std.specs.Prelude.{◌≡◌, IfOk};
-ghost use Rattle.stored.specs.Compared.{Remembers};
-ghost use Rattle.stored_records.specs.Fits.{PairFits, ShellFits, TableFits};
+ghost use Rattle.std.specs.Prelude.{◌≡◌, ◌≤◌};
+ghost use Rattle.stored.specs.Compared.{Compares, Keeps};
 
-use stored::{Damaged, MOST, Reader};
-use stored_cells::Buffer;
+use rows::lent::{Wires, WiresMut};
+use rows::tables::{Row, TableMut};
+use stored::{Damaged, Reader};
+use stored_cells::{Buffer, Cell};
 
 // How many vertices and edges a call was told.
 #[derive(Clone, Copy)]
@@ -13,131 +14,134 @@ pub struct Counts {
     pub edges: usize,
 }
 
-// A table of rows: its numbers, and its floats.
-#[derive(Clone, Copy)]
-pub struct Table {
-    pub numbers: Buffer<u32>,
-    pub floats: Buffer<f64>,
+// The lengths of two buffers.
+#[derive(Drop)]
+pub struct Lengths {
+    pub first: usize,
+    pub second: usize,
+    pub ghost bound: { (first ≤ 64) × (second ≤ 64) },
 }
+
+// Two buffers.
+#[derive(Drop)]
+pub struct Buffers<A, B> {
+    pub first: Buffer<A>,
+    pub second: Buffer<B>,
+}
+
+// A table of rows: its numbers, and its floats.
+pub type Table = Buffers<u32, f64>;
 
 // Two buffers of numbers, as the uses and the lengths of wires.
-#[derive(Clone, Copy)]
-pub struct Pair {
-    pub first: Buffer<u32>,
-    pub second: Buffer<u32>,
-}
+pub type Pair = Buffers<u32, u32>;
 
 // The two tables of a shell, and its wires or two stretches of uses.
-#[derive(Clone, Copy)]
+#[derive(Drop)]
 pub struct Shell {
     pub vertices: Table,
     pub edges: Table,
     pub wires: Pair,
 }
 
-// A count from the list.
-pub fn read_count(list: &mut Reader<'_>) -> Result<usize, Damaged>
-    ensures is_same_value { list.new.is_same ≡ list.old.is_same }
-    ensures buf_value { list.new.buf.now ≡ list.old.buf.now }
-{
-    let n = list.next()?;
-    Ok(n as usize)
-}
-
 impl Counts {
     pub fn read(list: &mut Reader<'_>) -> Result<Counts, Damaged>
-        ensures is_same_value { list.new.is_same ≡ list.old.is_same }
-        ensures buf_value { list.new.buf.now ≡ list.old.buf.now }
+        ensures keeps { Keeps list.old list.new }
     {
-        let vertices = read_count(list)?;
-        let edges = read_count(list)?;
+        let vertices = usize::next(list)?;
+        let edges = usize::next(list)?;
         Ok(Counts { vertices, edges })
     }
 }
 
-impl Table {
-    pub fn read(list: &mut Reader<'_>) -> Result<Table, Damaged>
-        ensures fits { IfOk result TableFits }
-        ensures is_same_value { list.new.is_same ≡ list.old.is_same }
-        ensures buf_value { list.new.buf.now ≡ list.old.buf.now }
+impl Lengths {
+    pub fn read(list: &mut Reader<'_>) -> Result<Lengths, Damaged>
+        ensures keeps { Keeps list.old list.new }
     {
-        let numbers = Buffer::read(list)?;
-        let floats = Buffer::read(list)?;
-        Ok(Table { numbers, floats })
-    }
-
-    // The table with other cells in its buffers.
-    pub fn with(self, numbers: [u32; MOST], floats: [f64; MOST]) -> Table
-        requires { TableFits self }
-        ensures { TableFits result × (result.numbers.count ≡ self.numbers.count) × (result.floats.count ≡ self.floats.count) }
-    {
-        Table {
-            numbers: Buffer {
-                cells: numbers,
-                ..self.numbers
-            },
-            floats: Buffer {
-                cells: floats,
-                ..self.floats
-            },
-        }
-    }
-
-    // Compares the table with the list.
-    pub fn compare(&self, list: &mut Reader<'_>) -> Result<(), Damaged>
-        requires { TableFits self.now }
-        ensures remembers { Remembers list.old list.new }
-        ensures buf_value { list.new.buf.now ≡ list.old.buf.now }
-    {
-        self.numbers.compare(list)?;
-        self.floats.compare(list)
+        let first = list.next_length()?;
+        let second = list.next_length()?;
+        Ok(Lengths { first, second })
     }
 }
 
-impl Pair {
-    pub fn read(list: &mut Reader<'_>) -> Result<Pair, Damaged>
-        ensures fits { IfOk result PairFits }
-        ensures is_same_value { list.new.is_same ≡ list.old.is_same }
-        ensures buf_value { list.new.buf.now ≡ list.old.buf.now }
+impl<A: Cell, B: Cell> Buffers<A, B> {
+    // Reads two buffers, the length of each before its cells.
+    pub fn read(list: &mut Reader<'_>) -> Result<Buffers<A, B>, Damaged>
+        ensures keeps { Keeps list.old list.new }
     {
         let first = Buffer::read(list)?;
         let second = Buffer::read(list)?;
-        Ok(Pair { first, second })
+        Ok(Buffers { first, second })
     }
 
-    // The two buffers with other cells.
-    pub fn with(self, first: [u32; MOST], second: [u32; MOST]) -> Pair
-        requires { PairFits self }
-        ensures { PairFits result × (result.first.count ≡ self.first.count) × (result.second.count ≡ self.second.count) }
+    // Reads two buffers of these lengths.
+    pub fn fill(list: &mut Reader<'_>, n: Lengths) -> Result<Buffers<A, B>, Damaged>
+        ensures keeps { Keeps list.old list.new }
     {
-        Pair {
-            first: Buffer {
-                cells: first,
-                ..self.first
-            },
-            second: Buffer {
-                cells: second,
-                ..self.second
-            },
-        }
+        let first = Buffer::fill(list, n.first)?;
+        let second = Buffer::fill(list, n.second)?;
+        Ok(Buffers { first, second })
     }
 
-    // Compares the two buffers with the list.
+    // Compares both buffers with the list.
     pub fn compare(&self, list: &mut Reader<'_>) -> Result<(), Damaged>
-        requires { PairFits self.now }
-        ensures remembers { Remembers list.old list.new }
-        ensures buf_value { list.new.buf.now ≡ list.old.buf.now }
+        ensures compares { Compares list.old list.new }
     {
         self.first.compare(list)?;
         self.second.compare(list)
     }
 }
 
+impl Table {
+    // The table as it is lent to a call, said to have `count` rows.
+    pub fn lent<R: Row>(&self, count: usize) -> rows::tables::Table<'_, R>
+        ensures numbers_value { result.numbers.now ≡ self.now.first.items.items }
+        ensures floats_value { result.floats.now ≡ self.now.second.items.items }
+        ensures count_value { result.count ≡ count }
+    {
+        rows::tables::Table::new(self.first.cells(), self.second.cells(), count)
+    }
+
+    // The same, to be written.
+    pub fn lent_mut<R: Row>(&mut self, count: usize) -> TableMut<'_, R>
+        ensures numbers_value { result.numbers.now ≡ self.old.first.items.items }
+        ensures floats_value { result.floats.now ≡ self.old.second.items.items }
+        ensures count_value { result.count ≡ count }
+    {
+        TableMut::new(self.first.cells_mut(), self.second.cells_mut(), count)
+    }
+}
+
+impl Pair {
+    // The wires as they are lent to a call, said to be `count`.
+    pub fn lent(&self, count: usize) -> Wires<'_>
+        ensures uses_value { result.uses.now ≡ self.now.first.items.items }
+        ensures lengths_value { result.lengths.now ≡ self.now.second.items.items }
+        ensures count_value { result.count ≡ count }
+    {
+        Wires {
+            uses: self.first.cells(),
+            lengths: self.second.cells(),
+            count,
+        }
+    }
+
+    // The same, to be written.
+    pub fn lent_mut(&mut self, count: usize) -> WiresMut<'_>
+        ensures uses_value { result.uses.now ≡ self.old.first.items.items }
+        ensures lengths_value { result.lengths.now ≡ self.old.second.items.items }
+        ensures count_value { result.count ≡ count }
+    {
+        WiresMut {
+            uses: self.first.cells_mut(),
+            lengths: self.second.cells_mut(),
+            count,
+        }
+    }
+}
+
 impl Shell {
     pub fn read(list: &mut Reader<'_>) -> Result<Shell, Damaged>
-        ensures fits { IfOk result ShellFits }
-        ensures is_same_value { list.new.is_same ≡ list.old.is_same }
-        ensures buf_value { list.new.buf.now ≡ list.old.buf.now }
+        ensures keeps { Keeps list.old list.new }
     {
         let vertices = Table::read(list)?;
         let edges = Table::read(list)?;
@@ -151,9 +155,7 @@ impl Shell {
 
     // Compares the shell with the list.
     pub fn compare(&self, list: &mut Reader<'_>) -> Result<(), Damaged>
-        requires { ShellFits self.now }
-        ensures remembers { Remembers list.old list.new }
-        ensures buf_value { list.new.buf.now ≡ list.old.buf.now }
+        ensures compares { Compares list.old list.new }
     {
         self.vertices.compare(list)?;
         self.edges.compare(list)?;

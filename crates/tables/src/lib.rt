@@ -4,18 +4,18 @@
 ghost use Rattle.std.specs.Prelude.{◌≡◌, true, ℕ, ◌+◌, ◌*◌, ◌≤◌, ◌<◌, eqb, length, get_or};
 ghost use Rattle.std.specs.Float.{nan};
 ghost use Rattle.compress.specs.Refusals.{cause_of};
-ghost use Rattle.compress.specs.Rows.{curve_at};
+ghost use Rattle.compress.specs.Rows.{HasRow, curve_at};
 ghost use Rattle.compress.specs.Shell.{rows_fit};
 ghost use Rattle.compress.specs.declared.Vertex.TheVariants.{Pending};
 ghost use Rattle.checks.specs.Causes.{table_cause, range_cause, parameter_cause, uv_cause, curve_cause, vertex_cause, point_cause, curve_kind_cause, edge_row_cause, vertex_row_cause, edges_cause, vertices_cause};
 
-use compress::{Checked, Edge, Refusal, Vertex};
+use compress::{Checked, Edge, Refusal, Uv, Vertex, Xyz};
 use rows::tables::{Row, Table};
 
 // ---- rows
 
 fn edge_row(vertices: usize, edges: &Table<Edge>, i: usize) -> Checked
-    requires { (i * 4 + 4 ≤ length edges.now.numbers.now) × (i * 6 + 6 ≤ length edges.now.floats.now) }
+    requires { HasRow 4 6 edges.now.numbers.now edges.now.floats.now i }
     ensures { cause_of result ≡ edge_row_cause vertices edges.now.numbers.now edges.now.floats.now i }
 {
     let k = checks::kind(edges.numbers[i * 4 + 2]);
@@ -31,7 +31,7 @@ fn curve_kind(kind: u32, curve_kind: u32) -> Checked
 }
 
 fn vertex_row(vertices: &Table<Vertex>, i: usize) -> Checked
-    requires { (i * 3 + 3 ≤ length vertices.now.numbers.now) × (i * 7 + 7 ≤ length vertices.now.floats.now) }
+    requires { HasRow 3 7 vertices.now.numbers.now vertices.now.floats.now i }
     ensures { cause_of result ≡ vertex_row_cause vertices.now.numbers.now vertices.now.floats.now i }
 {
     let a = i * 3;
@@ -40,7 +40,8 @@ fn vertex_row(vertices: &Table<Vertex>, i: usize) -> Checked
     checks::lower(k, checks::lower(c, checks::vertex(vertices.at(i))))
 }
 
-// ---- the first pass: tests that only say yes or no. After a yes a table is not read again; after a no its rows tell the cause.
+// ---- the first pass: tests that only say yes or no. After a yes a table is not read again; after a no its rows tell the cause. The causes alone
+// take longer, measured (docs/PERFORMANCE.md, the two changes of 2026-11-16).
 
 // Three comparisons: -1.0e15 is at most t0, t0 at most t1, t1 at most 1.0e15. So both are sized.
 fn is_range_sound(t0: f64, t1: f64) -> bool
@@ -61,17 +62,17 @@ fn is_parameter_sound(t0: f64, t1: f64, t: f64) -> bool
     above & under
 }
 
-fn is_uv_sound(u: f64, v: f64) -> bool
-    ensures { result ≡ true → uv_cause (record { u = u; v = v }) ≡ 0 }
+fn is_uv_sound(p: Uv) -> bool
+    ensures { result ≡ true → uv_cause p ≡ 0 }
 {
-    floats::is_sized(u) & floats::is_sized(v)
+    floats::is_sized(p.u) & floats::is_sized(p.v)
 }
 
 // Whether a point has no cause.
-pub fn is_point_sound(x: f64, y: f64, z: f64) -> bool
-    ensures { result ≡ eqb (point_cause x y z) 0 }
+pub fn is_point_sound(p: Xyz) -> bool
+    ensures { result ≡ eqb (point_cause p.x p.y p.z) 0 }
 {
-    floats::is_sized(x) & floats::is_sized(y) & floats::is_sized(z)
+    floats::is_sized(p.x) & floats::is_sized(p.y) & floats::is_sized(p.z)
 }
 
 // A curve whose six floats begin at b.
@@ -88,14 +89,20 @@ fn is_curve_sound(kind: u32, floats: &[f64], b: usize) -> bool
     if kind != 1 {
         return false;
     }
-    let p = is_uv_sound(floats[b], floats[b + 1]);
-    let q = is_uv_sound(floats[b + 2], floats[b + 3]);
-    p & q
+    let p = Uv {
+        u: floats[b],
+        v: floats[b + 1],
+    };
+    let q = Uv {
+        u: floats[b + 2],
+        v: floats[b + 3],
+    };
+    is_uv_sound(p) & is_uv_sound(q)
 }
 
 // The edge of row i, between vertices of which there are at least `bound`.
 fn is_edge_sound(bound: u32, edges: &Table<Edge>, i: usize) -> bool
-    requires { (i * 4 + 4 ≤ length edges.now.numbers.now) × (i * 6 + 6 ≤ length edges.now.floats.now) }
+    requires { HasRow 4 6 edges.now.numbers.now edges.now.floats.now i }
     ensures { result ≡ true → (v : ℕ) → bound ≤ v → edge_row_cause v edges.now.numbers.now edges.now.floats.now i ≡ 0 }
 {
     let numbers = edges.numbers;
@@ -122,7 +129,7 @@ fn is_pending_sound(kind: u32, floats: &[f64], b: usize) -> bool
 }
 
 fn is_vertex_sound(vertices: &Table<Vertex>, i: usize) -> bool
-    requires { (i * 3 + 3 ≤ length vertices.now.numbers.now) × (i * 7 + 7 ≤ length vertices.now.floats.now) }
+    requires { HasRow 3 7 vertices.now.numbers.now vertices.now.floats.now i }
     ensures { result ≡ true → vertex_row_cause vertices.now.numbers.now vertices.now.floats.now i ≡ 0 }
 {
     let numbers = vertices.numbers;
@@ -130,7 +137,7 @@ fn is_vertex_sound(vertices: &Table<Vertex>, i: usize) -> bool
     let b = i * 7;
     let kind = numbers[i * 3];
     if kind == 0 {
-        return is_point_sound(floats[b], floats[b + 1], floats[b + 2]);
+        return is_point_sound(Xyz::read(floats, b));
     }
     if kind != 1 {
         return false;
@@ -140,33 +147,28 @@ fn is_vertex_sound(vertices: &Table<Vertex>, i: usize) -> bool
 
 // ---- tables
 
-// Whether every row passes the test.
-fn are_sound<S: Fn(usize) -> bool>(count: usize, is_sound: S) -> bool
-    requires { (i : ℕ) → i < count → S.pre is_sound i }
-    ensures { result ≡ true → (i : ℕ) → i < count → S.post is_sound i true }
-{
-    for i in 0..count {
-        if !is_sound(i) {
-            return false;
-        }
-    }
-    true
-}
-
 // A table whose rows have the causes that `row` tells, none of them where `is_sound` says yes.
 pub fn table<R: Row, S: Fn(usize) -> bool, C: Fn(usize) -> Checked>(
     rows: &Table<R>,
     is_sound: S,
     row: C,
 ) -> Checked
-    requires is_sound_callable { rows_fit R.NUMBERS R.FLOATS rows.now.numbers.now rows.now.floats.now rows.now.count ≡ true → (i : ℕ) → i < rows.now.count → S.pre is_sound i }
-    requires row_callable { rows_fit R.NUMBERS R.FLOATS rows.now.numbers.now rows.now.floats.now rows.now.count ≡ true → (i : ℕ) → i < rows.now.count → C.pre row i }
-    ensures { (f : ℕ → ℕ) → ((i : ℕ) → i < rows.now.count → S.post is_sound i true → f i ≡ 0) → ((i : ℕ) (r : _) → i < rows.now.count → C.post row i r → cause_of r ≡ f i) → cause_of result ≡ table_cause R.NUMBERS R.FLOATS f rows.now.numbers.now rows.now.floats.now rows.now.count }
+    requires is_sound_callable { let t = rows.now in
+        rows_fit R.NUMBERS R.FLOATS t.numbers.now t.floats.now t.count ≡ true → (i : ℕ) → i < t.count → S.pre is_sound i }
+    requires row_callable { let t = rows.now in
+        rows_fit R.NUMBERS R.FLOATS t.numbers.now t.floats.now t.count ≡ true → (i : ℕ) → i < t.count → C.pre row i }
+    ensures { let t = rows.now in
+        (f : ℕ → ℕ) → ((i : ℕ) → i < t.count → S.post is_sound i true → f i ≡ 0) →
+        ((i : ℕ) (r : _) → i < t.count → C.post row i r → cause_of r ≡ f i) →
+        cause_of result ≡ table_cause R.NUMBERS R.FLOATS f t.numbers.now t.floats.now t.count }
 {
     if !rows.fits(rows.count) {
         return Err(Refusal::Malformed);
     }
-    if are_sound(rows.count, is_sound) {
+    let sound = |i|
+        requires { S.pre is_sound i }
+    { is_sound(i) };
+    if (0..rows.count).all(sound) {
         return Ok(());
     }
     checks::lowest_cause(rows.count, row)

@@ -80,101 +80,108 @@ pub fn boundary_type(a: Uv, b: Uv, area: f64) -> Result<BoundaryType, Refusal>
 
 // ---- sorting of wires
 
-// The wire of row i.
-fn ends_at(ends: &[f64], i: usize) -> Ends
-    requires { i * 5 + 5 ≤ length ends.now }
-    ensures { result ≡ ends_at ends.now i }
-{
-    let a = i * 5;
-    let first = Uv {
-        u: ends[a],
-        v: ends[a + 1],
-    };
-    let last = Uv {
-        u: ends[a + 2],
-        v: ends[a + 3],
-    };
-    Ends {
-        first,
-        last,
-        area: ends[a + 4],
-    }
+// The ends of wires, as a host lends them: five floats each, and how many wires they are said to be. A trait over these rows, those of cuts and those
+// of a divisor would have a member for each: all they share is the count.
+#[derive(Clone, Copy)]
+pub struct LentEnds<'a> {
+    pub floats: &'a [f64],
+    pub count: usize,
 }
 
-fn sort_cause(ends: &[f64], wires: usize) -> Checked
-    ensures { cause_of result ≡ sort_cause ends.now wires }
-{
-    if wires > 64 || ends.len() < wires * 5 {
-        return Err(Refusal::Malformed);
-    }
-    checks::lowest_cause(wires, |i| kind_cause(ends_at(ends, i)))
-}
-
-// Wire i is open.
-fn is_open(ends: &[f64], i: usize) -> bool
-    requires { i * 5 + 5 ≤ length ends.now }
-    ensures { result ≡ is_open (type_at ends.now i) }
-{
-    kind_of(ends_at(ends, i)) == BoundaryType::NotClosed
-}
-
-// The numbers of the open wires, and of the closed ones, both in order, to the front of their slices; how many are open.
-fn gather(ends: &[f64], wires: usize, opens: &mut [u32], closed: &mut [u32]) -> usize
-    requires wires_in { (wires ≤ 64) × (wires * 5 ≤ length ends.now) }
-    requires room { (wires ≤ length opens.old) × (wires ≤ length closed.old) }
-    ensures at_most { result ≤ wires }
-    ensures open_count { result ≡ length (wanted_below ends.now true wires) }
-    ensures closed_count { wires - result ≡ length (wanted_below ends.now false wires) }
-    ensures opens_after { take result opens.new ≡ wanted_below ends.now true wires }
-    ensures closed_after { take (wires - result) closed.new ≡ wanted_below ends.now false wires }
-{
-    // How many are open, and so the place of the next one; i - at are closed.
-    let mut at: usize = 0;
-    for i in 0..wires {
-        if is_open(ends, i) {
-            opens[at] = i as u32;
-            at += 1;
-        } else {
-            closed[i - at] = i as u32;
+impl LentEnds<'_> {
+    // The wire of row i.
+    fn at(&self, i: usize) -> Ends
+        requires { i * 5 + 5 ≤ length self.now.floats.now }
+        ensures { result ≡ ends_at self.now.floats.now i }
+    {
+        let floats = self.floats;
+        let a = i * 5;
+        let first = Uv {
+            u: floats[a],
+            v: floats[a + 1],
+        };
+        let last = Uv {
+            u: floats[a + 2],
+            v: floats[a + 3],
+        };
+        Ends {
+            first,
+            last,
+            area: floats[a + 4],
         }
     }
-    at
-}
 
-fn sort_checked(
-    ends: &[f64],
-    wires: usize,
-    opens: &mut [u32],
-    closed: &mut [u32],
-) -> Result<Option<usize>, Refusal>
-    requires { sort_cause ends.now wires ≡ 0 }
-    ensures { unsorted (said_if (λ n. n) result) opens.new closed.new ≡ sort_wires ends.now wires opens.old closed.old }
-{
-    let mut found = [0u32; 64];
-    let mut rest = [0u32; 64];
-    let n = gather(ends, wires, &mut found, &mut rest);
-    let k = wires - n;
-    if n != 2 {
-        return Ok(None);
+    // Causes 1 and 4 of all wires.
+    fn cause(&self) -> Checked
+        ensures { cause_of result ≡ sort_cause self.now.floats.now self.now.count }
+    {
+        if self.count > 64 || self.floats.len() < self.count * 5 {
+            return Err(Refusal::Malformed);
+        }
+        checks::lowest_cause(self.count, |i| kind_cause(self.at(i)))
     }
-    if opens.len() < 2 || closed.len() < k {
-        return Err(Refusal::NoRoom);
+
+    // Wire i is open.
+    fn is_open(&self, i: usize) -> bool
+        requires { i * 5 + 5 ≤ length self.now.floats.now }
+        ensures { result ≡ is_open (type_at self.now.floats.now i) }
+    {
+        kind_of(self.at(i)) == BoundaryType::NotClosed
     }
-    opens[..2].copy_from_slice(&found[..2]);
-    closed[..k].copy_from_slice(&rest[..k]);
-    Ok(Some(k))
+
+    // The numbers of the open wires, and of the closed ones, both in order, to the front of their slices; how many are open.
+    fn gather(&self, opens: &mut [u32], closed: &mut [u32]) -> usize
+        requires wires_in { (self.now.count ≤ 64) × (self.now.count * 5 ≤ length self.now.floats.now) }
+        requires room { (self.now.count ≤ length opens.old) × (self.now.count ≤ length closed.old) }
+        ensures at_most { result ≤ self.now.count }
+        ensures open_count { result ≡ length (wanted_below self.now.floats.now true self.now.count) }
+        ensures closed_count { self.now.count - result ≡ length (wanted_below self.now.floats.now false self.now.count) }
+        ensures opens_after { take result opens.new ≡ wanted_below self.now.floats.now true self.now.count }
+        ensures closed_after { take (self.now.count - result) closed.new ≡ wanted_below self.now.floats.now false self.now.count }
+    {
+        // How many are open is the place of the next one, in fixed memory, since the calls that hosts make have no heap; i - at are closed.
+        let mut at: usize = 0;
+        for i in 0..self.count {
+            if self.is_open(i) {
+                opens[at] = i as u32;
+                at += 1;
+            } else {
+                closed[i - at] = i as u32;
+            }
+        }
+        at
+    }
+
+    fn sort_checked(&self, opens: &mut [u32], closed: &mut [u32]) -> Result<Option<usize>, Refusal>
+        requires { sort_cause self.now.floats.now self.now.count ≡ 0 }
+        ensures { let ends = self.now in
+            unsorted (said_if (λ n. n) result) opens.new closed.new ≡ sort_wires ends.floats.now ends.count opens.old closed.old }
+    {
+        let mut found = [0u32; 64];
+        let mut rest = [0u32; 64];
+        let n = self.gather(&mut found, &mut rest);
+        let k = self.count - n;
+        if n != 2 {
+            return Ok(None);
+        }
+        if opens.len() < 2 || closed.len() < k {
+            return Err(Refusal::NoRoom);
+        }
+        opens[..2].copy_from_slice(&found[..2]);
+        closed[..k].copy_from_slice(&rest[..k]);
+        Ok(Some(k))
+    }
 }
 
 // The sorting of wires: the numbers of the two open ones, and of the closed ones, both in given order. The answer is how many are closed,
 // or "none".
 pub fn sort_wires(
-    ends: &[f64],
-    wires: usize,
+    ends: &LentEnds,
     opens: &mut [u32],
     closed: &mut [u32],
 ) -> Result<Option<usize>, Refusal>
-    ensures { unsorted (said_if (λ n. n) result) opens.new closed.new ≡ sort_wires ends.now wires opens.old closed.old }
+    ensures { unsorted (said_if (λ n. n) result) opens.new closed.new ≡ sort_wires ends.now.floats.now ends.now.count opens.old closed.old }
 {
-    sort_cause(ends, wires)?;
-    sort_checked(ends, wires, opens, closed)
+    ends.cause()?;
+    ends.sort_checked(opens, closed)
 }

@@ -1,6 +1,6 @@
 -- A turned wire: its length and its uses, and its two parts written one after the other.
 -- Assumes nothing.
-use mathlib.Core.Path.{◌≡◌, ap, sym, ◌∙◌}
+use mathlib.Core.Path.{◌≡◌, refl, ap, sym, ◌∙◌}
 use mathlib.Core.List.{List, [], ◌++◌, append_assoc, append-nil}
 use Prim.Native.Nat.{ℕ, ◌+◌, ◌-◌, ◌%◌, ◌≤◌, ◌<◌}
 use native.Mathlib.Omega.{arith}
@@ -44,19 +44,20 @@ get_or_turned i k w h lt = by_side (dec_lt (i + k) (length w))
 -- the part from place i on is written to the front of `out`, which gives out₁; the part before it is lent the rest of out₁, which gives ys
 module _ (i : ℕ) (w out : List ℕ) (i_le : i ≤ length w) (room : length w ≤ length out) where
   pub turned_by_parts : (out₁ ys : List ℕ)
-      → out₁ ≡ take (length w - i) (take (length w - i) (drop i w)) ++ drop (length w - i) out
-      → ys ≡ take i w ++ drop i (take (length out₁ - (length w - i)) (drop (length w - i) out₁))
+      → out₁ ≡ take (length w - i) (drop i w) ++ drop (length (take (length w - i) (drop i w))) out
+      → ys ≡ take i w ++ drop (length (take i w)) (take (length out₁ - (length w - i)) (drop (length w - i) out₁))
       → take (length w - i) out₁ ++ (ys ++ drop (length out₁ - (length w - i)) (drop (length w - i) out₁)) ≡ turned i w ++ drop (length w) out
   unfolding turned
   turned_by_parts out₁ ys e₁ e₂ =
       let n = length w - i in
       let l : length (drop i w) ≡ n = length-drop i w in
       let first : out₁ ≡ drop i w ++ drop n out
-      = rw (e₁, take_all n (drop i w) (omega arith), take_all n (drop i w) (omega arith)) in
+      = rw (e₁, take_all n (drop i w) (omega arith), l) refl in
+      let size : length (take i w) ≡ i = length-take-le i w (omega arith) in
       let front : take n out₁ ≡ drop i w = rw first (take_at (drop i w) (drop n out) n l) in
       let back : drop n out₁ ≡ drop n out = rw first (drop_at (drop i w) (drop n out) n l) in
       let whole : length out₁ ≡ length out = rw first (simp (length-append, length-drop) (omega arith)) in
       let left : length (drop n out) ≡ length out - n = length-drop n out in
       let none : drop (length out - n) (drop n out) ≡ [] = drop_of_length-le (drop n out) {i = length out - n} (omega arith) in
       let p : n + i ≡ length w = omega arith in
-      rw (e₂, front, back, whole, take_all (length out - n) (drop n out) (omega arith), none, append-nil, drop-drop i n out, p, append_assoc)
+      rw (e₂, size, front, back, whole, take_all (length out - n) (drop n out) (omega arith), none, append-nil, drop-drop i n out, p, append_assoc)

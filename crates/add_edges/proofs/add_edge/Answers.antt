@@ -1,6 +1,5 @@
 use Rattle.std.proofs.Common.{arith}
 use mathlib.Core.Path.{sym}
-use Rattle.compress.specs.Rows.{edge_at}
 use Rattle.add_edges.proofs.Edges.{closed_yes, closed_no}
 use Rattle.add_edges.proofs.add_edge.Goals as goal
 

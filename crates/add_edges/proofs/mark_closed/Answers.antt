@@ -1,5 +1,11 @@
+use Rattle.std.proofs.Common.{◌≡◌, ◌≤◌, ◌+◌, ◌*◌, ◌∷◌, [], ◌++◌, List, Float, length, get_or, take, eqb, arith, ℕ, Bor}
+use borrow.Author.Tests.{eq-eqb, ne_eqb}
+use Rattle.std.proofs.lemmas.List.{length_push}
+use Rattle.std.proofs.lemmas.Iterator.Consumers.{YieldsList-from_enumerate, YieldsList-turn, YieldsList-end}
+use Rattle.compress.specs.Records.{closed}
+use Rattle.compress.specs.Rows.{edge_at, edge_of}
+use Rattle.add_edges.proofs.Quads.{yields_quads, quad_item, numbered_length}
 use Rattle.add_edges.proofs.Marking.{marking_start, marking_turn, marking_done}
-use native.Mathlib.Omega.{arith}
 use Rattle.add_edges.proofs.mark_closed.Goals.{then-cut, else-cut}
 use Rattle.add_edges.proofs.mark_closed.Goals as goal
 
@@ -7,12 +13,30 @@ pub loop-i-init : goal.loop-i-init
 loop-i-init c = marking_start _ _ _ c.requires.2
 
 pub loop-i-preserved : goal.loop-i-preserved
+unfolding closed edge_of
 loop-i-preserved c =
     let l = c.loop-i in
-    marking_turn _ _ _ c.requires.2 l.added l.i l.m c.is_closed-cut.result _ _ l.invariant c.loop-i-test.true
-    c.is_closed-cut.ensures
-    (elim c.if-cut.branch [ then-cut w ↦ rw w.if-cut.true w.added-is | else-cut w ↦ rw w.if-cut.false w.added-is ])
-    (elim c.if-cut.branch [ then-cut w ↦ rw (c.from.ensures, w.if-cut.true) | else-cut w ↦ rw (c.from.ensures, w.if-cut.false) (omega arith) ])
+    let ns = c.args.edges.now.numbers.now in
+    let item : ℕ × Bor (List ℕ) = (c.in-Some.i, c.in-Some.row) in
+    let road = YieldsList-from_enumerate (yields_quads _ (take (c.args.edges.now.count * 4) ns) (cc) (cc)) cc in
+    let q = quad_item ns c.args.edges.now.count _ _ c.requires.1 (YieldsList-turn road l.yielded _ l.yielded_by _ _ item c.in-Some.is c.next.ensures.steps) in
+    let k = length l.yielded in
+    let b = eqb (get_or c.in-Some.row.now 0 0) (get_or c.in-Some.row.now 1 0) in
+    let same : (fs : List Float) → b ≡ closed (edge_at ns fs k) = λ fs. rw (q.first, q.second) in
+    let n : length (l.yielded ++ (item ∷ [])) ≡ k + 1 = omega (arith, length_push l.yielded item) in
+    rw (n, q.place_is)
+    (marking_turn _ _ _ c.requires.2 l.added k l.m b _ _ l.invariant q.inside same
+    (elim c.if-cut.branch [ then-cut w ↦ rw (eq-eqb _ _ w.if-cut.true) w.added-is | else-cut w ↦ rw (ne_eqb _ _ w.if-cut.false) w.added-is ])
+    (elim c.if-cut.branch [
+      | then-cut w ↦ rw (c.from.ensures, eq-eqb _ _ w.if-cut.true)
+      | else-cut w ↦ rw (c.from.ensures, ne_eqb _ _ w.if-cut.false) (omega arith)
+    ]))
 
 pub returns : goal.returns
-returns c = marking_done _ _ _ c.requires.2 c.loop-i.added c.loop-i.i c.loop-i.m c.loop-i.invariant c.loop-i-test.false
+returns c =
+    let l = c.loop-i in
+    let ns = c.args.edges.now.numbers.now in
+    let count = c.args.edges.now.count in
+    let road = YieldsList-from_enumerate (yields_quads _ (take (count * 4) ns) (cc) (cc)) cc in
+    let past : count ≤ length l.yielded = omega (arith, (YieldsList-end road l.yielded _ l.yielded_by _ _ c.in-None.is c.next.ensures.steps).1, numbered_length ns count c.requires.1) in
+    marking_done _ _ _ c.requires.2 l.added (length l.yielded) l.m l.invariant past

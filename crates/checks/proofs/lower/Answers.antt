@@ -1,12 +1,52 @@
-use Rattle.std.proofs.Common.{rules}
+use Rattle.std.proofs.Common.{cond, Bool, true, false, refl, ap, ◌≡◌, ◌∙◌, min, is_lt, int_cmp, ℤ, pos, get_or, [], ◌∷◌, ℕ, ltb, Less, Greater, Equal}
+use Rattle.std.proofs.Common.{arith}
+use borrow.Author.Tests.{ltb-true, ltb-false}
+use Rattle.compress.specs.declared.Refusal.{Refusal}
+use Rattle.compress.specs.declared.Refusal.TheVariants.{Malformed, VertexNumber, EdgeNumber, NotSized, OutOfRange, NoRoom, PendingVertex, PastEnd, OddDivisor, RepeatedVertex, DeadEnd, TooManyUses, EmptyList, SeveralCuts, EmptyOpenWire}
+use Rattle.compress.specs.Refusals.{refusal_number}
 use Rattle.checks.proofs.Lowest.{lower_first, lower_last, lower_refusals}
 use Rattle.checks.proofs.lower.Goals as goal
 
-pub returns-then-lt : goal.returns-then-lt
-returns-then-lt c = let a = c.in-Err-Err in rw (a.is-0, a.is-1) (lower_refusals a.x a.y _ (search rules))
+-- the numbers by which refusals are ordered
+abbrev rank : Refusal → ℤ
+rank z =
+    get_or (pos 1 ∷ pos 2 ∷ pos 3 ∷ pos 4 ∷ pos 5 ∷ pos 6 ∷ pos 7 ∷ pos 8 ∷ pos 9 ∷ pos 10 ∷ pos 11 ∷ pos 12 ∷ pos 13 ∷ pos 14 ∷ pos 15 ∷ [])
+    (denote.Enum.Declared.tag_of Rattle.compress.specs.contracts.Refusal.the_type z) (pos 0)
 
-pub returns-else-lt : goal.returns-else-lt
-returns-else-lt c = let a = c.in-Err-Err in rw (a.is-0, a.is-1) (lower_refusals a.x a.y _ (search rules))
+ranked : (z : Refusal) → rank z ≡ pos (refusal_number z)
+ranked Malformed = refl
+ranked VertexNumber = refl
+ranked EdgeNumber = refl
+ranked NotSized = refl
+ranked OutOfRange = refl
+ranked NoRoom = refl
+ranked PendingVertex = refl
+ranked PastEnd = refl
+ranked OddDivisor = refl
+ranked RepeatedVertex = refl
+ranked DeadEnd = refl
+ranked TooManyUses = refl
+ranked EmptyList = refl
+ranked SeveralCuts = refl
+ranked EmptyOpenWire = refl
+
+least : (x y : Refusal) → refusal_number (cond (is_lt (int_cmp (rank y) (rank x))) y x) ≡ min (refusal_number x) (refusal_number y)
+least x y = rw (ranked y, ranked x) (by (ltb b a) (ltb a b) refl)
+  where
+    a : ℕ
+    a = refusal_number x
+
+    b : ℕ
+    b = refusal_number y
+
+    by : (t u : Bool) → ltb (refusal_number y) (refusal_number x) ≡ t
+        → refusal_number (cond (is_lt (cond t Less (cond u Greater Equal))) y x) ≡ min (refusal_number x) (refusal_number y)
+    by true u p = omega (arith, ltb-true _ _ p)
+    by false true p = omega (arith, ltb-false _ _ p)
+    by false false p = omega (arith, ltb-false _ _ p)
+
+pub returns-in-Err-Err : goal.returns-in-Err-Err
+returns-in-Err-Err c = let a = c.in-Err-Err in rw (a.is-0, a.is-1) (lower_refusals a.x a.y _ (ap refusal_number c.min.ensures ∙ least a.x a.y))
 
 pub returns-in-Err-Ok : goal.returns-in-Err-Ok
 returns-in-Err-Ok c = let a = c.in-Err-Ok in rw (a.is-0, a.is-1, lower_last)

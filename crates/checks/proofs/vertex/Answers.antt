@@ -1,3 +1,4 @@
+use Rattle.std.proofs.Common.{refl, ◌∙◌}
 use Rattle.checks.specs.Causes.{vertex_cause}
 use Rattle.checks.proofs.Lowest.{lower_same}
 use Rattle.checks.proofs.vertex.Goals as goal
@@ -9,4 +10,4 @@ returns-in-Given c = rw c.in-Given.is c.point.ensures
 pub returns-in-Pending : goal.returns-in-Pending
 unfolding vertex_cause
 returns-in-Pending c =
-    rw c.in-Pending.is (lower_same c.curve.ensures c.curve_parameter.ensures c.lower.ensures)
+    rw c.in-Pending.is (lower_same c.curve.ensures (c.parameter.ensures ∙ rw (c.range-t0.ensures.0, c.range-t0.ensures.1) refl) c.lower.ensures)

@@ -1,31 +1,19 @@
-use mathlib.Core.Path.{◌∙◌}
-use borrow.Author.Tests.{lt-ltb, le-ltb}
-use Rattle.checks.specs.Causes.{wires_cause}
-use Rattle.checks.proofs.Lowest.{uses_front}
+use Rattle.std.proofs.Common.{rules}
+use Rattle.compress.proofs.Refused.{exit_is}
+use Rattle.checks.proofs.Lying.{lying, lacking, wires_lacking, wires_over, wires_within, told_some, told_none}
 use Rattle.checks.proofs.wires.Goals as goal
 
-pub returns-then-wires-gt64 : goal.returns-then-wires-gt64
-unfolding wires_cause
-returns-then-wires-gt64 c = simp (lt-ltb _ _ c.if-wires-gt64.true)
+pub returns-in_err-all : goal.returns-in_err-all
+returns-in_err-all c =
+    let l = lacking _ (told_none _ _ _ _ _ c.ok_or.ensures.ok_part c.in_err-all.was c.lent_uses.ensures) in
+    rw (exit_is _ _ c.from_residual.ensures.1, wires_lacking c.args.edges c.args.wires.now l) (search rules)
 
-pub returns-then-wires : goal.returns-then-wires
-unfolding wires_cause
-returns-then-wires c = simp (le-ltb _ _ c.if-wires-gt64.false, lt-ltb _ _ c.if-wires.true)
-
-pub returns-then-sum-gt1024 : goal.returns-then-sum-gt1024
-unfolding wires_cause
-returns-then-sum-gt1024 c =
-    rw (← c.total_uses-sum.ensures)
-    (simp (le-ltb _ _ c.if-wires-gt64.false, le-ltb _ _ c.if-wires.false, lt-ltb _ _ c.if-sum-gt1024.true))
-
-pub returns-then-wires-sum : goal.returns-then-wires-sum
-unfolding wires_cause
-returns-then-wires-sum c =
-    rw (← c.total_uses-sum.ensures)
-    (simp (le-ltb _ _ c.if-wires-gt64.false, le-ltb _ _ c.if-wires.false, le-ltb _ _ c.if-sum-gt1024.false, lt-ltb _ _ c.if-wires-sum.true))
+pub returns-in_err-count : goal.returns-in_err-count
+returns-in_err-count c =
+    let l = told_some _ _ _ _ _ c.ok_or.ensures.ok_part c.in_ok-all.was c.lent_uses.ensures in
+    rw (exit_is _ _ c.from_residual-in_err-count.ensures.1) (wires_over c.args.edges c.args.wires.now _ _ (lying _ l.0) l.1 c.in_err-count.ensures)
 
 pub returns : goal.returns
-unfolding wires_cause
 returns c =
-    rw (← c.total_uses-sum.ensures)
-    (simp (le-ltb _ _ c.if-wires-gt64.false, le-ltb _ _ c.if-wires.false, le-ltb _ _ c.if-sum-gt1024.false, le-ltb _ _ c.if-wires-sum.false) (c.uses.ensures ∙ uses_front _ _ _ c.if-wires-sum.false))
+    let l = told_some _ _ _ _ _ c.ok_or.ensures.ok_part c.in_ok-all.was c.lent_uses.ensures in
+    wires_within c.args.edges c.args.wires.now _ _ (lying _ l.0) l.1 c.in_ok-count.ensures c.uses.ensures

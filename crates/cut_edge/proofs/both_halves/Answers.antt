@@ -1,6 +1,21 @@
-use Rattle.cut_edge.specs.Cut.{halves_of}
+use Rattle.std.proofs.Common.{◌≡◌, refl}
+use Rattle.std.specs.Prelude.{Float}
+use Rattle.compress.specs.declared.Curve.{Curve}
+use Rattle.compress.specs.declared.Curve.TheVariants.{Span, Seam}
+use Rattle.compress.specs.Records.{first_of, last_of}
+use Rattle.cut_edge.specs.Cut.{with_range, up_to, from_on, halves_of}
 use Rattle.cut_edge.proofs.both_halves.Goals as goal
+
+first_half : (c : Curve) (t : Float) → with_range c (first_of c) t ≡ up_to c t
+first_half (Span n a b) t = refl
+first_half (Seam n p q a b) t = refl
+
+second_half : (c : Curve) (t : Float) → with_range c t (last_of c) ≡ from_on c t
+second_half (Span n a b) t = refl
+second_half (Seam n p q a b) t = refl
 
 pub returns : goal.returns
 unfolding halves_of
-returns c = rw (c.up_to-first.ensures, c.from_on-second.ensures)
+returns c =
+    let r = c.range-t0.ensures in
+    rw (c.with_range.ensures, c.with_range-2.ensures, r.0, r.1, first_half, second_half)

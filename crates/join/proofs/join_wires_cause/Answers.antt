@@ -1,41 +1,40 @@
-use mathlib.Core.Path.{◌∙◌}
-use Rattle.checks.proofs.Lowest.{uses_front}
-use Rattle.join.proofs.Causes.{many_wires, no_lengths, no_first, no_second, many_first, many_second, many_uses, no_uses, uses_told}
+use Rattle.std.proofs.Common.{rules}
+use Rattle.compress.proofs.Refused.{exit_is}
+use Rattle.checks.proofs.Lying.{lying, lacking, told_some, told_none}
+use Rattle.join.proofs.Causes.{first_lacking, second_lacking, new_lacking, many_wires, over, within}
 use Rattle.join.proofs.join_wires_cause.Goals as goal
 
-pub returns-then-wires-gt62 : goal.returns-then-wires-gt62
-returns-then-wires-gt62 c = many_wires _ _ _ _ _ _ _ _ c.if-wires-gt62.true
+pub returns-in_err-a : goal.returns-in_err-a
+returns-in_err-a c =
+    let l = told_none _ _ _ _ _ c.ok_or.ensures.ok_part c.in_err-a.was c.lent_uses.ensures in
+    rw (exit_is _ _ c.from_residual.ensures.1, first_lacking c.args.edges c.args.first.now c.args.second.now c.args.wires.now l) (search rules)
 
-pub returns-then-wires : goal.returns-then-wires
-returns-then-wires c = no_lengths _ _ _ _ _ _ _ _ c.if-wires-gt62.false c.if-wires.true
+pub returns-in_err-b : goal.returns-in_err-b
+returns-in_err-b c =
+    let l = told_none _ _ _ _ _ c.ok_or-2.ensures.ok_part c.in_err-b.was c.lent_uses-2.ensures in
+    rw (exit_is _ _ c.from_residual-in_err-b.ensures.1, second_lacking c.args.edges c.args.first.now c.args.second.now c.args.wires.now l) (search rules)
 
-pub returns-then-first : goal.returns-then-first
-returns-then-first c = no_first _ _ _ _ _ _ _ _ c.if-wires-gt62.false c.if-wires.false c.if-first.true
+pub returns-in_err-new : goal.returns-in_err-new
+returns-in_err-new c =
+    let l = lacking _ (told_none _ _ _ _ _ c.ok_or-3.ensures.ok_part c.in_err-new.was c.lent_uses-3.ensures) in
+    rw (exit_is _ _ c.from_residual-in_err-new.ensures.1, new_lacking c.args.edges c.args.first.now c.args.second.now c.args.wires.now l) (search rules)
 
-pub returns-then-second : goal.returns-then-second
-returns-then-second c = no_second _ _ _ _ _ _ _ _ c.if-wires-gt62.false c.if-wires.false c.if-first.false c.if-second.true
+pub returns-in_err-count : goal.returns-in_err-count
+returns-in_err-count c =
+    rw (exit_is _ _ c.from_residual-in_err-count.ensures.1) (many_wires c.args.edges c.args.first.now c.args.second.now c.args.wires.now _ c.in_err-count.ensures)
 
-pub returns-then-first-gt1024 : goal.returns-then-first-gt1024
-returns-then-first-gt1024 c = many_first _ _ _ _ _ _ _ _ c.if-wires-gt62.false c.if-wires.false c.if-first.false c.if-second.false c.if-first-gt1024.true
-
-pub returns-then-second-first : goal.returns-then-second-first
-returns-then-second-first c = many_second _ _ _ _ _ _ _ _ c.if-wires-gt62.false c.if-wires.false c.if-first.false c.if-second.false c.if-second-first.true c.if-first-gt1024.false
-
-pub returns-then-sum-first : goal.returns-then-sum-first
-returns-then-sum-first c = many_uses _ _ _ _ _ _ _ _ c.if-wires-gt62.false c.if-wires.false c.if-first.false c.if-second.false _ c.total_uses-sum.ensures c.if-sum-first.true
-
-pub returns-then-wires-sum : goal.returns-then-wires-sum
-returns-then-wires-sum c = no_uses _ _ _ _ _ _ _ _ c.if-wires-gt62.false c.if-wires.false c.if-first.false c.if-second.false _ c.total_uses-sum.ensures c.if-first-gt1024.false c.if-second-first.false c.if-sum-first.false c.if-wires-sum.true
+pub returns-in_err-count-2 : goal.returns-in_err-count-2
+returns-in_err-count-2 c =
+    let a = told_some _ _ _ _ _ c.ok_or.ensures.ok_part c.in_ok-a.was c.lent_uses.ensures in
+    let b = told_some _ _ _ _ _ c.ok_or-2.ensures.ok_part c.in_ok-b.was c.lent_uses-2.ensures in
+    let n = told_some _ _ _ _ _ c.ok_or-3.ensures.ok_part c.in_ok-new.was c.lent_uses-3.ensures in
+    rw (exit_is _ _ c.from_residual-in_err-count-2.ensures.1)
+    (over c.args.edges c.args.first.now c.args.second.now c.args.wires.now a.0 b.0 (lying _ n.0) _ _ _ a.1 b.1 n.1 _ c.in_err-count-2.ensures)
 
 pub returns : goal.returns
-returns c = uses_told _ _ _ _ _ _ _ _
-    c.if-wires-gt62.false
-    c.if-wires.false
-    c.if-first.false
-    c.if-second.false _
-    c.total_uses-sum.ensures
-    c.if-first-gt1024.false
-    c.if-second-first.false
-    c.if-sum-first.false c.if-wires-sum.false
-    (c.uses-a.ensures ∙ uses_front _ _ _ c.if-first.false) (c.uses-b.ensures ∙ uses_front _ _ _ c.if-second.false)
-    (c.uses.ensures ∙ uses_front _ _ _ c.if-wires-sum.false) c.lower.ensures c.lower-2.ensures
+returns c =
+    let a = told_some _ _ _ _ _ c.ok_or.ensures.ok_part c.in_ok-a.was c.lent_uses.ensures in
+    let b = told_some _ _ _ _ _ c.ok_or-2.ensures.ok_part c.in_ok-b.was c.lent_uses-2.ensures in
+    let n = told_some _ _ _ _ _ c.ok_or-3.ensures.ok_part c.in_ok-new.was c.lent_uses-3.ensures in
+    within c.args.edges c.args.first.now c.args.second.now c.args.wires.now a.0 b.0 (lying _ n.0) _ _ _ a.1 b.1 n.1 _ _ _ _ _
+    c.in_ok-count.ensures c.in_ok-count-2.ensures c.uses.ensures c.uses-2.ensures c.uses-of_new.ensures c.lower.ensures c.lower-2.ensures

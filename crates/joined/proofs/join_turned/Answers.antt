@@ -1,6 +1,5 @@
 use mathlib.Core.Path.{ap, refl, ◌∙◌}
 use native.Mathlib.Omega.{arith}
-use lib.Seq.{length-take-le}
 use Rattle.compress.proofs.Refused.{exit_is}
 use Rattle.compress.specs.Said.{result, none}
 use Rattle.laying.proofs.Places.{found_is}
@@ -17,94 +16,65 @@ returns-in_default-find_wire-clause-outcome c =
     let q = rw (v.uses_value, v.lengths_value, v.count_value) at c.in_default-find_wire.ensures in
     ap (left_by c.args.wires.now) (joined_no_wire _ _ _ _ _ _ _ c.in-Some.ensures q)
 
-pub slice_bounds-total_uses-end : goal.slice_bounds-total_uses-end
-slice_bounds-total_uses-end c =
+pub place-requires : goal.place-requires
+place-requires c =
     let v = c.view-lent.ensures in
     let J = c.requires.joinable in
-    let w = wire_found J c.args.v0 (rw (v.uses_value, v.lengths_value, v.count_value) at c.in-Some-find_wire.ensures) in
-    rw v.lengths_value (omega (arith, length-take-le c.in-Some-find_wire.w c.args.wires.now.lengths.now (omega (arith, w, J.lies.lengths))))
+    let w = wire_found J c.args.joint.now.v0 (rw (v.uses_value, v.lengths_value, v.count_value) at c.in-Some-find_wire.ensures) in
+    rw (v.lengths_value, v.count_value) (omega (arith, w), omega (arith, J.lies.wires), J.lies.lengths)
 
-pub total_uses-from-requires : goal.total_uses-from-requires
-total_uses-from-requires c =
-    let v = c.view-lent.ensures in
-    let J = c.requires.joinable in
-    let w = wire_found J c.args.v0 (rw (v.uses_value, v.lengths_value, v.count_value) at c.in-Some-find_wire.ensures) in
-    rw v.lengths_value (omega (arith, w, J.lies.wires, length-take-le c.in-Some-find_wire.w c.args.wires.now.lengths.now (omega (arith, w, J.lies.lengths))))
-
-pub offset_bounds-lent-w : goal.offset_bounds-lent-w
-offset_bounds-lent-w c =
-    let v = c.view-lent.ensures in
-    let J = c.requires.joinable in
-    let w = wire_found J c.args.v0 (rw (v.uses_value, v.lengths_value, v.count_value) at c.in-Some-find_wire.ensures) in
-    omega (arith, w, J.lies.wires)
-
-pub bounds-lent-w : goal.bounds-lent-w
-bounds-lent-w c =
-    let v = c.view-lent.ensures in
-    let J = c.requires.joinable in
-    let w = wire_found J c.args.v0 (rw (v.uses_value, v.lengths_value, v.count_value) at c.in-Some-find_wire.ensures) in
-    rw v.lengths_value (omega (arith, w, J.lies.lengths))
-
-pub overflow_add-to : goal.overflow_add-to
-overflow_add-to c =
+pub offset_bounds-lent-place : goal.offset_bounds-lent-place
+offset_bounds-lent-place c =
     let v = c.view-lent.ensures in
     let J = c.requires.joinable in
     let W = rw (v.uses_value, v.lengths_value, v.count_value) at c.in-Some-find_wire.ensures in
-    let from = rw v.lengths_value at c.total_uses-from.ensures in
-    rw v.lengths_value (omega (arith, part_within J c.args.v0 W from, J.lies.few))
-
-pub offset_bounds-lent-from : goal.offset_bounds-lent-from
-offset_bounds-lent-from c =
-    let v = c.view-lent.ensures in
-    let J = c.requires.joinable in
-    let W = rw (v.uses_value, v.lengths_value, v.count_value) at c.in-Some-find_wire.ensures in
-    let from = rw v.lengths_value at c.total_uses-from.ensures in
-    omega (arith, part_within J c.args.v0 W from, J.lies.few)
+    let from = rw v.lengths_value at c.place.ensures.start in
+    omega (arith, part_within J c.args.joint.now.v0 W from, J.lies.few)
 
 pub slice_bounds-wire-end : goal.slice_bounds-wire-end
 slice_bounds-wire-end c =
     let v = c.view-lent.ensures in
     let J = c.requires.joinable in
     let W = rw (v.uses_value, v.lengths_value, v.count_value) at c.in-Some-find_wire.ensures in
-    let from = rw v.lengths_value at c.total_uses-from.ensures in
-    let p = part_within J c.args.v0 W from in
-    rw (v.uses_value, v.lengths_value) (omega (arith, p, J.lies.uses))
+    let from = rw v.lengths_value at c.place.ensures.start in
+    let p = part_within J c.args.joint.now.v0 W from in
+    rw (c.place.ensures.end, v.uses_value, v.lengths_value) (omega (arith, p, J.lies.uses))
 
 pub lay_joined-requires-clause-layable : goal.lay_joined-requires-clause-layable
 lay_joined-requires-clause-layable c =
     let v = c.view-lent.ensures in
     let J = c.requires.joinable in
     let W = rw (v.uses_value, v.lengths_value, v.count_value) at c.in-Some-find_wire.ensures in
-    let from = rw v.lengths_value at c.total_uses-from.ensures in
-    rw (v.uses_value, v.lengths_value)
-    (laying_asks J c.args.v0 W from c.args.first.now _ refl refl c.requires.turn_in_bounds (omega (arith, found_is _ _ c.in-Some.ensures)))
+    let from = rw v.lengths_value at c.place.ensures.start in
+    rw (c.place.ensures.end, v.uses_value, v.lengths_value)
+    (laying_asks J c.args.joint.now.v0 W from c.args.first.now _ refl refl c.args.first.now.turn (omega (arith, found_is _ _ c.in-Some.ensures)))
 
 pub returns-in_default-lay_joined-clause-outcome : goal.returns-in_default-lay_joined-clause-outcome
 returns-in_default-lay_joined-clause-outcome c =
     let v = c.view-lent.ensures in
     let W = rw (v.uses_value, v.lengths_value, v.count_value) at c.in-Some-find_wire.ensures in
-    let from = rw v.lengths_value at c.total_uses-from.ensures in
-    let laid = rw (v.uses_value, v.lengths_value) at c.in_default-lay_joined.ensures.out_after in
-    call_leaves c.requires.joinable c.args.v0 W from c.args.first.now.by c.args.v1 c.in-Some.ensures none laid
+    let from = rw v.lengths_value at c.place.ensures.start in
+    let laid = rw (c.place.ensures.end, v.uses_value, v.lengths_value) at c.in_default-lay_joined.ensures.out_after in
+    call_leaves c.requires.joinable c.args.joint.now.v0 W from c.args.first.now.by c.args.joint.now.v1 c.in-Some.ensures none laid
 
 pub replace_wire-requires-clause-w_in_bounds : goal.replace_wire-requires-clause-w_in_bounds
 replace_wire-requires-clause-w_in_bounds c =
     let v = c.view-lent.ensures in
-    wire_found c.requires.joinable c.args.v0 (rw (v.uses_value, v.lengths_value, v.count_value) at c.in-Some-find_wire.ensures)
+    wire_found c.requires.joinable c.args.joint.now.v0 (rw (v.uses_value, v.lengths_value, v.count_value) at c.in-Some-find_wire.ensures)
 
 pub returns-in_err-count-clause-outcome : goal.returns-in_err-count-clause-outcome
 returns-in_err-count-clause-outcome c =
     let v = c.view-lent.ensures in
     let W = rw (v.uses_value, v.lengths_value, v.count_value) at c.in-Some-find_wire.ensures in
-    let from = rw v.lengths_value at c.total_uses-from.ensures in
-    let laid = rw (v.uses_value, v.lengths_value) at c.in-Some-lay_joined.ensures.out_after in
+    let from = rw v.lengths_value at c.place.ensures.start in
+    let laid = rw (c.place.ensures.end, v.uses_value, v.lengths_value) at c.in-Some-lay_joined.ensures.out_after in
     rw (exit_is _ _ c.from_residual.ensures.1)
-    (c.in_err-count.ensures.stored ∙ call_leaves c.requires.joinable c.args.v0 W from c.args.first.now.by c.args.v1 c.in-Some.ensures (result _) laid)
+    (c.in_err-count.ensures.stored ∙ call_leaves c.requires.joinable c.args.joint.now.v0 W from c.args.first.now.by c.args.joint.now.v1 c.in-Some.ensures (result _) laid)
 
 pub returns-clause-outcome : goal.returns-clause-outcome
 returns-clause-outcome c =
     let v = c.view-lent.ensures in
     let W = rw (v.uses_value, v.lengths_value, v.count_value) at c.in-Some-find_wire.ensures in
-    let from = rw v.lengths_value at c.total_uses-from.ensures in
-    let laid = rw (v.uses_value, v.lengths_value) at c.in-Some-lay_joined.ensures.out_after in
-    c.in_ok-count.ensures.stored ∙ call_leaves c.requires.joinable c.args.v0 W from c.args.first.now.by c.args.v1 c.in-Some.ensures (result _) laid
+    let from = rw v.lengths_value at c.place.ensures.start in
+    let laid = rw (c.place.ensures.end, v.uses_value, v.lengths_value) at c.in-Some-lay_joined.ensures.out_after in
+    c.in_ok-count.ensures.stored ∙ call_leaves c.requires.joinable c.args.joint.now.v0 W from c.args.first.now.by c.args.joint.now.v1 c.in-Some.ensures (result _) laid

@@ -1,7 +1,5 @@
-use Rattle.std.proofs.Common.{◌≡◌, ◌+◌, ◌-◌, ◌*◌}
-use Rattle.std.proofs.lemmas.List.Edits.{sets}
-use Rattle.marks.specs.Marks.{new_uses}
+use Rattle.std.proofs.Common.{◌≡◌, ℕ, ◌+◌, ◌*◌, ◌<◌, get_or}
 use Rattle.marks.proofs.signup_new_edges.Given as goal
 
 abbrev pub invariant-loop-i : goal.invariant-loop-i
-invariant-loop-i l = sets l.out (l.at + l.i * 2) (new_uses (l.m + l.i) (l.n - l.i)) ≡ sets l.initial.out l.at (new_uses l.m l.n)
+invariant-loop-i l = (k : ℕ) → k < l.i → get_or l.u-items k 0 ≡ l.m * 2 + k

@@ -1,19 +1,12 @@
 use Rattle.std.proofs.Common.{arith}
-use mathlib.Core.Path.{sym}
-use lib.Seq.{length-take-le}
 use Rattle.checks.proofs.Accepted.{wires_accepted}
 use Rattle.mending.proofs.mend_wires.Goals as goal
-
-pub slice_bounds-total_uses-end : goal.slice_bounds-total_uses-end
-slice_bounds-total_uses-end c =
-    let v = c.view-lent.ensures in
-    rw (v.count_value, v.lengths_value) (sym (length-take-le _ _ (wires_accepted _ _ _ _ c.requires.wires_value).lengths))
 
 pub total_uses-requires : goal.total_uses-requires
 total_uses-requires c =
     let v = c.view-lent.ensures in
     let W = wires_accepted _ _ _ _ c.requires.wires_value in
-    rw (v.count_value, v.lengths_value, length-take-le _ _ W.lengths) W.below
+    rw (v.count_value, v.lengths_value) (W.below, W.lengths)
 
 pub mend_within-requires-clause-uses_few : goal.mend_within-requires-clause-uses_few
 mend_within-requires-clause-uses_few c =

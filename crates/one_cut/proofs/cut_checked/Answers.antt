@@ -27,7 +27,7 @@ returns-in_err-uses-clause-outcome c =
 pub put_cut-requires : goal.put_cut-requires
 put_cut-requires c =
     let p = places _ _ _ _ _ _ _ _ _ c.args.i c.args.c c.requires.0 _ c.cut_room-room.ensures _ _ _ c.mend_cut.ensures.mended _ c.in_ok-uses.was in
-    record { vertex_row = p.0; edge_row = (c.requires.1, p.1.0, p.1.1) }
+    record { vertex_row = (p.0.0, (p.0.1, p.0.2)); edge_row = (c.requires.1, (p.1.0, p.1.1)) }
 
 pub overflow_add-result : goal.overflow_add-result
 overflow_add-result c = omega (arith, (accepted _ _ _ _ _ _ _ _ _ c.requires.0).vertices.below)

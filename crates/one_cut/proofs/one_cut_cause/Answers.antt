@@ -5,7 +5,7 @@ use Rattle.one_cut.proofs.one_cut_cause.Goals as goal
 pub returns : goal.returns
 returns c =
     let a = c.args in
-    cause_found (lent a.vertices.now a.edges.now a.wires.now) a.edge a.cuts.now.floats.now a.cuts.now.count
+    cause_found (lent a.vertices.now a.edges.now a.wires.now) a.cuts.now.edge a.cuts.now.floats.now a.cuts.now.count
     c.float_at-t0.ensures c.float_at-t1.ensures
     c.input_cause-shell.ensures c.edge_number-number.ensures c.cause-c.ensures
     c.lower.ensures c.lower-2.ensures

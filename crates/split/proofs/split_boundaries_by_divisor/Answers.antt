@@ -1,5 +1,4 @@
-use Rattle.std.proofs.Common.{arith, sym}
-use lib.Seq.{length-take-le}
+use Rattle.std.proofs.Common.{arith}
 use Rattle.compress.proofs.Refused.{exit_is}
 use Rattle.split.proofs.Outcome.{checked, face_size, rebuilt_size, stops_size, lent_walkable, lent_room, call_told, call_refused}
 use Rattle.split.proofs.split_boundaries_by_divisor.Goals as goal
@@ -9,29 +8,17 @@ returns-in_err-split_cause-clause-outcome c =
     let v = c.view-lent.ensures in
     rw (exit_is _ _ c.from_residual.ensures.1) (call_refused _ _ (rw (v.numbers_value, v.floats_value, v.count_value) at (c.in_err-split_cause.ensures c.args.surface)))
 
-pub slice_bounds-total_uses-end : goal.slice_bounds-total_uses-end
-slice_bounds-total_uses-end c =
-    let v = c.view-lent.ensures in
-    let C = checked _ (rw (v.numbers_value, v.floats_value, v.count_value) at (c.in_ok-split_cause.ensures c.args.surface)) in
-    sym (length-take-le c.args.face.now.count c.args.face.now.lengths.now C.accepted.face_lengths)
-
 pub total_uses-n-requires : goal.total_uses-n-requires
 total_uses-n-requires c =
     let v = c.view-lent.ensures in
     let C = checked _ (rw (v.numbers_value, v.floats_value, v.count_value) at (c.in_ok-split_cause.ensures c.args.surface)) in
-    rw (length-take-le c.args.face.now.count c.args.face.now.lengths.now C.accepted.face_lengths) (omega (arith, C.accepted.wires))
-
-pub slice_bounds-total_uses-end-2 : goal.slice_bounds-total_uses-end-2
-slice_bounds-total_uses-end-2 c =
-    let v = c.view-lent.ensures in
-    let C = checked _ (rw (v.numbers_value, v.floats_value, v.count_value) at (c.in_ok-split_cause.ensures c.args.surface)) in
-    sym (length-take-le c.args.rebuilt.now.count c.args.rebuilt.now.lengths.now C.accepted.rebuilt_lengths)
+    (omega (arith, C.accepted.wires), C.accepted.face_lengths)
 
 pub total_uses-m-requires : goal.total_uses-m-requires
 total_uses-m-requires c =
     let v = c.view-lent.ensures in
     let C = checked _ (rw (v.numbers_value, v.floats_value, v.count_value) at (c.in_ok-split_cause.ensures c.args.surface)) in
-    rw (length-take-le c.args.rebuilt.now.count c.args.rebuilt.now.lengths.now C.accepted.rebuilt_lengths) (omega (arith, C.accepted.wires))
+    (omega (arith, C.accepted.wires), C.accepted.rebuilt_lengths)
 
 pub slice_bounds-split_checked-end : goal.slice_bounds-split_checked-end
 slice_bounds-split_checked-end c =

@@ -1,5 +1,4 @@
 use Rattle.std.proofs.Common.{arith, sym}
-use lib.Seq.{length-take-le}
 use Rattle.compress.proofs.Refused.{exit_is}
 use Rattle.split_causes.proofs.Accepted.{input_accepted, cause_input, cause_room, cause_odd, cause_repeat}
 use Rattle.split_causes.proofs.split_cause.Goals as goal
@@ -8,15 +7,10 @@ pub returns-in_err-split_input_cause : goal.returns-in_err-split_input_cause
 returns-in_err-split_input_cause c = λ s.
     rw (exit_is _ _ c.from_residual.ensures.1) (cause_input _ _ (c.in_err-split_input_cause.ensures _ _ s))
 
-pub slice_bounds-total_uses-end : goal.slice_bounds-total_uses-end
-slice_bounds-total_uses-end c =
-    let A = input_accepted _ (sym (c.in_ok-split_input_cause.ensures c.args.uses.now c.args.lengths.now 0)) in
-    sym (length-take-le c.args.rebuilt.now.count c.args.rebuilt.now.lengths.now A.rebuilt_lengths)
-
 pub total_uses-requires : goal.total_uses-requires
 total_uses-requires c =
     let A = input_accepted _ (sym (c.in_ok-split_input_cause.ensures c.args.uses.now c.args.lengths.now 0)) in
-    rw (length-take-le c.args.rebuilt.now.count c.args.rebuilt.now.lengths.now A.rebuilt_lengths) (omega (arith, A.wires))
+    (omega (arith, A.wires), A.rebuilt_lengths)
 
 pub overflow_add-n : goal.overflow_add-n
 overflow_add-n c =

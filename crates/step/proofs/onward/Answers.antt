@@ -1,20 +1,30 @@
-use Rattle.std.proofs.Common.{arith, refl, ◌-◌, ◌∙◌, sym, get_or}
-use Rattle.step.specs.Arrival.{many, one, second, first}
+use Rattle.std.proofs.Common.{◌≡◌, ◌+◌, ◌∙◌, refl, sym, arith, get_or}
+use Rattle.lists.proofs.Entries.{place_some, place_none, is_none, is_held, list_ends}
+use Rattle.step.specs.Arrival.{one, many, first, second}
 use Rattle.step.proofs.onward.Goals as goal
 
-pub returns-then-m-eq0 : goal.returns-then-m-eq0
-returns-then-m-eq0 c = one (c.from.result - 2) (omega arith) c.if-m-eq0.true refl refl refl
+pub returns-in_default : goal.returns-in_default
+returns-in_default c =
+    let h = list_ends _ _ _ _ c.list_of.ensures c.in_ok-list.ensures.ok_part c.in_ok-p.ensures.ok_part in
+    let e = c.set_last.ensures in
+    one _ h (place_none _ c.in_default.ensures) refl e.head_after e.next_same
 
-pub returns-then-lists-a-ne0 : goal.returns-then-lists-a-ne0
-returns-then-lists-a-ne0 c =
-    let p = c.from.result - 2 in
-    let a = c.from-a.result - 1 in
-    many p a (get_or c.args.lists.now.next a 0 - 1) (omega arith) (omega arith) (omega arith) refl refl refl
+pub returns-then-is_some : goal.returns-then-is_some
+returns-then-is_some c =
+    let h = list_ends _ _ _ _ c.list_of.ensures c.in_ok-list.ensures.ok_part c.in_ok-p.ensures.ok_part in
+    many _ _ _ h (place_some _ _ c.in-Some.ensures) (is_held _ _ c.place_before-2.ensures c.if-is_some.ensures) refl refl refl
 
 pub returns-then-takes_first : goal.returns-then-takes_first
 returns-then-takes_first c =
-    first (c.from.result - 2) (c.from-a.result - 1) (omega arith) (omega arith) (omega arith) (sym c.takes_first.ensures ∙ c.if-takes_first.true) refl refl refl
+    let h = list_ends _ _ _ _ c.list_of.ensures c.in_ok-list.ensures.ok_part c.in_ok-p.ensures.ok_part in
+    first _ _ h (place_some _ _ c.in-Some.ensures) (is_none _ _ c.place_before-2.ensures c.if-is_some.ensures)
+    (sym c.takes_first.ensures ∙ c.if-takes_first.true) refl c.make_first.ensures.head_same c.make_first.ensures.next_after
 
 pub returns : goal.returns
 returns c =
-    second (c.from.result - 2) (c.from-a.result - 1) (omega arith) (omega arith) (omega arith) (sym c.takes_first.ensures ∙ c.if-takes_first.false) refl refl refl
+    let h = list_ends _ _ _ _ c.list_of.ensures c.in_ok-list.ensures.ok_part c.in_ok-p.ensures.ok_part in
+    let p = place_some _ _ c.in-Some.ensures in
+    let e = c.set_last-2.ensures in
+    let m : c.in-Some.a + 2 ≡ get_or c.args.lists.now.next c.in_ok-p.p 0 + 1 = omega (arith, p) in
+    second _ _ h p (is_none _ _ c.place_before-2.ensures c.if-is_some.ensures) (sym c.takes_first.ensures ∙ c.if-takes_first.false)
+    refl (rw m at e.head_after) e.next_same

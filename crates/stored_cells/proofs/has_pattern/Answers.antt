@@ -1,24 +1,31 @@
-use mathlib.Core.Path.{◌≡◌, sym, subst}
-use mathlib.Core.Bool.{true, not}
+use mathlib.Core.Path.{◌≡◌, refl, sym, ◌∙◌}
+use mathlib.Core.Bool.{Bool, true, false, not}
+use Rattle.std.proofs.Common.{inl, inr}
 use lib.Dec.{T}
 use lib.Ieee.{Float, nan, inf, fin, is_nan, eq}
+use Rattle.std.proofs.lemmas.Float.{le_refl, lt-or-eq, lt_irrefl}
 use Rattle.stored_cells.specs.Floats.{has_pattern}
 use Rattle.stored_cells.proofs.has_pattern.Goals as goal
 
--- what equals itself is no NaN
-held : (x : Float) → eq x x ≡ true → T (not (is_nan x))
+-- a NaN does not equal itself
+differs : (x : Float) → is_nan x ≡ true → eq x x ≡ false
 unfolding eq is_nan
-held nan h = absurd (subst T (sym h) tt)
-held (inf s) h = tt
-held (fin s m e) h = tt
+differs nan h = refl
+differs (inf s) h = cc
+differs (fin s m e) h = cc
 
-pub float_to_bits-result : goal.float_to_bits-result
-float_to_bits-result c = held _ c.if-x.true
+held : (b : Bool) → T b → b ≡ true
+held true h = refl
+held false h = absurd h
 
-pub returns-then-x : goal.returns-then-x
+-- what is no NaN does
+equals : (x : Float) → T (not (is_nan x)) → eq x x ≡ true
+equals x h = elim (lt-or-eq x x (le_refl x h)) [ inl l ↦ absurd (lt_irrefl x l) | inr e ↦ held (eq x x) e ]
+
+pub returns-then-is_nan : goal.returns-then-is_nan
 unfolding has_pattern
-returns-then-x c = rw c.if-x.true
+returns-then-is_nan c = rw (differs c.args.x (sym c.is_nan.ensures.value ∙ c.if-is_nan.true)) c.is_nan_pattern.ensures
 
 pub returns : goal.returns
 unfolding has_pattern
-returns c = rw c.if-x.false c.is_nan_pattern.ensures
+returns c = rw (equals c.args.x c.if-is_nan.ensures.not_nan) refl

@@ -15,5 +15,5 @@ returns-then-kind-eq0 c = λ e. (omega arith, λ n. span_sound _ n _ _ _ _ c.if-
 pub returns : goal.returns
 returns c = λ e.
     let k : c.args.kind ≡ 1 = c.if-kind-ne1.false in
-    let p = both c.is_uv_sound-p.result c.is_uv_sound-q.result e in
-    (omega arith, λ n. seam_sound _ n _ _ _ _ k (c.is_uv_sound-p.ensures p.0) (c.is_uv_sound-q.ensures p.1) (c.is_range_sound.ensures c.if-not-is_range_sound.false))
+    let p = both c.is_uv_sound.result c.is_uv_sound-2.result e in
+    (omega arith, λ n. seam_sound _ n _ _ _ _ k (c.is_uv_sound.ensures p.0) (c.is_uv_sound-2.ensures p.1) (c.is_range_sound.ensures c.if-not-is_range_sound.false))

@@ -3,7 +3,7 @@ use Rattle.checks.proofs.Sound.{no, given_sound, pending_sound}
 use Rattle.tables.proofs.is_vertex_sound.Goals as goal
 
 pub returns-then-kind-eq0 : goal.returns-then-kind-eq0
-returns-then-kind-eq0 c = λ e. given_sound _ _ _ c.if-kind-eq0.true (told_none _ _ c.is_point_sound.ensures e)
+returns-then-kind-eq0 c = λ e. given_sound _ _ _ c.if-kind-eq0.true (told_none _ _ (rw c.read.ensures at c.is_point_sound.ensures) e)
 
 pub returns-then-kind-ne1 : goal.returns-then-kind-ne1
 returns-then-kind-ne1 c = λ e. no e

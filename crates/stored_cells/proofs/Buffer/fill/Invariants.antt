@@ -1,5 +1,7 @@
-use mathlib.Core.Path.{◌≡◌}
+use Rattle.std.proofs.Common.{◌≡◌}
+use Rattle.arrayvec.specs.ArrayVec.{array_vec_len}
+use Rattle.stored.specs.Compared.{Keeps}
 use Rattle.stored_cells.proofs.Buffer.fill.Given as goal
 
-abbrev pub invariant-loop-cell : goal.invariant-loop-cell
-invariant-loop-cell g l = (l.list.is_same ≡ l.initial.list.is_same) × (l.list.buf.now ≡ l.initial.list.buf.now)
+abbrev pub invariant-loop : goal.invariant-loop
+invariant-loop g l = (array_vec_len l.items ≡ l.counter) × Keeps l.initial.list l.list

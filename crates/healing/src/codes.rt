@@ -1,0 +1,82 @@
+// What a host is told of an answer: a code, and a result in the places that it lent.
+ghost use Rattle.std.specs.Prelude.{◌≡◌};
+ghost use Rattle.compress.specs.Said.{said_of, said_if};
+ghost use Rattle.healing.specs.Host.{Told, code_of};
+
+use compress::{Counts, Refusal};
+use nearest::Ends;
+
+// 0 for a result, else the number of the refusal.
+pub(crate) fn code_of<T: Copy>(answer: Result<T, Refusal>) -> i32
+    ensures { result ≡ code_of (said_of (λ x. x) answer) }
+{
+    match answer {
+        Ok(_) => 0,
+        Err(r) => host_numbers::refusal_code(r),
+    }
+}
+
+// The same of an answer that may be "none", which is -1.
+pub(crate) fn code_if<T: Copy>(answer: Result<Option<T>, Refusal>) -> i32
+    ensures { result ≡ code_of (said_if (λ x. x) answer) }
+{
+    match answer {
+        Ok(None) => -1,
+        told => code_of(told),
+    }
+}
+
+// A result, to the place for it.
+pub(crate) fn tell<T: Copy>(answer: Result<T, Refusal>, out: &mut T) -> i32
+    ensures { Told (said_of (λ x. x) answer) out.old out.new result }
+{
+    if let Ok(x) = &answer {
+        *out = *x;
+    }
+    code_of(answer)
+}
+
+// The same of an answer that may be "none".
+pub(crate) fn tell_if<T: Copy>(answer: Result<Option<T>, Refusal>, out: &mut T) -> i32
+    ensures { Told (said_if (λ x. x) answer) out.old out.new result }
+{
+    if let Ok(Some(x)) = &answer {
+        *out = *x;
+    }
+    code_if(answer)
+}
+
+// The counts of a shell that a call leaves, to three places.
+pub(crate) fn tell_counts(
+    answer: Result<Counts, Refusal>,
+    vertices_out: &mut usize,
+    edges_out: &mut usize,
+    uses_out: &mut usize,
+) -> i32
+    ensures { Told (said_of (λ n. n) answer)
+        (record { vertices = vertices_out.old; edges = edges_out.old; uses = uses_out.old })
+        (record { vertices = vertices_out.new; edges = edges_out.new; uses = uses_out.new }) result }
+{
+    if let Ok(n) = answer {
+        *vertices_out = n.vertices;
+        *edges_out = n.edges;
+        *uses_out = n.uses;
+    }
+    code_of(answer)
+}
+
+// Two vertices, to two places.
+pub(crate) fn tell_ends(
+    answer: Result<Option<Ends>, Refusal>,
+    v0_out: &mut u32,
+    v1_out: &mut u32,
+) -> i32
+    ensures { Told (said_if (λ e. e) answer)
+        (record { v0 = v0_out.old; v1 = v1_out.old }) (record { v0 = v0_out.new; v1 = v1_out.new }) result }
+{
+    if let Ok(Some(ends)) = answer {
+        *v0_out = ends.v0;
+        *v1_out = ends.v1;
+    }
+    code_if(answer)
+}
