@@ -73,7 +73,8 @@ impl EdgeCuts<'_> {
 
 // ---- the tables
 
-// Edge i is cut as the cut says, by the next vertex, and its second half becomes the next edge.
+// Edge i is cut as the cut says, by the next vertex, and its second half becomes the next edge. The counts of the tables stay as they were lent:
+// rows are written past them, and the caller says what the counts become.
 pub fn put_cut(vertices: &mut TableMut<Vertex>, edges: &mut TableMut<Edge>, i: usize, c: Cut)
     requires vertex_row { let v = vertices.old in
         (v.count < 4096) × HasRow 3 7 v.numbers.now v.floats.now v.count }

@@ -29,8 +29,8 @@ pub fn distance2_uv(u0: f64, v0: f64, u1: f64, v1: f64) -> f64
     du * du + dv * dv
 }
 
-// The squared distance of the points (x0, y0, z0) and (x1, y1, z1), added in the order x, y, z. Floats and no points: this crate stands below the
-// records.
+// The squared distance of the points (x0, y0, z0) and (x1, y1, z1), added in the order x, y, z. Six floats and no two points: a struct
+// of three floats for this one function is no plainer.
 pub fn distance2_xyz(x0: f64, y0: f64, z0: f64, x1: f64, y1: f64, z1: f64) -> f64
     ensures { result ≡ distance2_xyz x0 y0 z0 x1 y1 z1 }
 {

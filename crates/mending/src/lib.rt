@@ -37,7 +37,8 @@ fn replace_use(u: u32, new: u32) -> Parts
     Parts::Two(new * 2 + 1, u)
 }
 
-// The uses are written from place `at` on, and the place after them is the answer: the mended wire goes to a place in fixed memory.
+// The uses are written from place `at` on, and the place after them is the answer: the mended wire goes to a place in fixed memory. No ArrayVec:
+// no crate below `healing` uses a crate of the kit.
 fn push(out: &mut [u32], at: usize, p: Parts) -> usize
     requires { at + 2 ≤ length out.old }
     ensures { (result ≡ at + length (uses_of_parts p)) × (out.new ≡ sets out.old at (uses_of_parts p)) }
@@ -72,7 +73,7 @@ fn replace_edges(wire: &[u32], added: &[u32], out: &mut [u32]) -> usize
 }
 
 // Every wire is mended: the uses go to `out` and the lengths to `out_lengths`. The answer is the count of uses. Places in fixed memory are
-// counted: no heap.
+// counted: no heap, and no crate of the kit here.
 fn replace_wires(wires: &Wires, added: &[u32], out: &mut [u32], out_lengths: &mut [u32]) -> usize
     requires { Replaceable wires.now.uses.now wires.now.lengths.now wires.now.count added.now out.old out_lengths.old }
     ensures { Mended (replace_wires added.now (wires_in wires.now)) out.new out_lengths.new result }

@@ -228,15 +228,29 @@ module _ (vn : List ℕ) (vf : List Float) (en : List ℕ) (ef : List Float) (us
       let b = lower_none (when (leb e i) 3) (cuts_cause t0 t1 cs n) a.1 in
       (a.0, leb-false e i (not_when (leb e i) 2 b.0), ltb-false (length cs) (n * 4) (passed (ltb (length cs) (n * 4)) _ b.1).0)
 
+  -- where nothing is cut, the counts are those of the shell
+  pub call_left : input_cause (lent_of vn vf en ef us ls v e w) ≡ 0 → (t : ℕ) → t ≡ total (take w ls)
+      → leaves (Ok (record { vertices = v; edges = e; uses = t })) vn vf en ef us ls
+      ≡ record { said = result (counts_of (load (lent_of vn vf en ef us ls v e w))); slices = (lent_of vn vf en ef us ls v e w).slices }
+  unfolding load counts_of
+  call_left z t d =
+      let A = accepted vn vf en ef us ls v e w z in
+      rw (length_rows (vertex_at vn vf) 0 v, length_rows (edge_at en ef) 0 e, uses_lent us (take w ls) A.wires.uses, d)
+
   module _ (k : ℕ) (q : k ≡ one_cut_cause (lent_of vn vf en ef us ls v e w) i cs n) (z : k ≡ 0) where
     by_cuts : cut_outcome (lent_of vn vf en ef us ls v e w) i cs n ≡ cut_by (rows (cut_at cs) 0 n) (lent_of vn vf en ef us ls v e w) i
     unfolding cut_outcome
     by_cuts = rw (← q, z)
 
     -- no cut
-    pub call_none : n ≡ 0 → record { said = result (counts_of (load (lent_of vn vf en ef us ls v e w))); slices = (lent_of vn vf en ef us ls v e w).slices }
+    pub call_bare : n ≡ 0 → record { said = result (counts_of (load (lent_of vn vf en ef us ls v e w))); slices = (lent_of vn vf en ef us ls v e w).slices }
         ≡ cut_outcome (lent_of vn vf en ef us ls v e w) i cs n
-    call_none p = rw (by_cuts, p, rows_none (cut_at cs) 0)
+    call_bare p = rw (by_cuts, p, rows_none (cut_at cs) 0)
+
+    -- no cut: nothing changes, and the counts are told
+    pub call_none : n ≡ 0 → (t : ℕ) → t ≡ total (take w ls)
+        → leaves (Ok (record { vertices = v; edges = e; uses = t })) vn vf en ef us ls ≡ cut_outcome (lent_of vn vf en ef us ls v e w) i cs n
+    call_none p t d = call_left (call_checked k q z).0 t d ∙ call_bare p
 
     -- two or more
     pub call_several : 1 < n → record { said = refused 14; slices = (lent_of vn vf en ef us ls v e w).slices } ≡ cut_outcome (lent_of vn vf en ef us ls v e w) i cs n
@@ -249,12 +263,3 @@ module _ (vn : List ℕ) (vf : List Float) (en : List ℕ) (ef : List Float) (us
     -- one
     pub call_once : n ≡ 1 → (c : Cut) → c ≡ cut_at cs 0 → once_outcome (lent_of vn vf en ef us ls v e w) i c ≡ cut_outcome (lent_of vn vf en ef us ls v e w) i cs n
     call_once p c d = rw (by_cuts, p, rows_first (cut_at cs) 0 1 0 refl, rows_none (cut_at cs) 1, ← d)
-
-  -- where nothing is cut, the counts are those of the shell
-  pub call_left : input_cause (lent_of vn vf en ef us ls v e w) ≡ 0 → (t : ℕ) → t ≡ total (take w ls)
-      → leaves (Ok (record { vertices = v; edges = e; uses = t })) vn vf en ef us ls
-      ≡ record { said = result (counts_of (load (lent_of vn vf en ef us ls v e w))); slices = (lent_of vn vf en ef us ls v e w).slices }
-  unfolding load counts_of
-  call_left z t d =
-      let A = accepted vn vf en ef us ls v e w z in
-      rw (length_rows (vertex_at vn vf) 0 v, length_rows (edge_at en ef) 0 e, uses_lent us (take w ls) A.wires.uses, d)

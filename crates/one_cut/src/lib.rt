@@ -44,7 +44,7 @@ fn one_cut_cause(
     let b = cuts.edge as usize * 6;
     let t0 = float_at(edges.floats, b + 4);
     let t1 = float_at(edges.floats, b + 5);
-    let shell = cutting::input_cause(vertices, edges, wires);
+    let shell = cutting::input_cause(&vertices.view(), &edges.view(), &wires.view());
     let number = checks::edge_number(edges.count, cuts.edge);
     let c = cuts.cause(t0, t1);
     checks::lower(shell, checks::lower(number, c))
@@ -121,7 +121,7 @@ fn cut_checked(
     ensures same_edges { SameTable edges.old edges.new }
     ensures same_wires { SameWires wires.old wires.new }
 {
-    let room = cutting::cut_room(vertices, edges);
+    let room = cutting::cut_room(&vertices.view(), &edges.view());
     let uses = mend_cut(wires, edges.count, i, room)?;
     cuts::put_cut(vertices, edges, i, c);
     Ok(Counts {

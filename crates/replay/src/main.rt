@@ -13,7 +13,8 @@ use replay_tally::{Part, Run};
 use stored::{Damaged, Reader};
 
 // Replays the call with this number. A list with any other number is damaged.
-// The numbers are matched where they are read, since each arm reads another record: an enum of the calls would only be a second list.
+// The numbers are matched where they are read, since each arm reads another record: an enum of the calls would only be a second list, a table
+// of functions would be pointers, and a closure each is no plainer.
 fn replay(list: &mut Reader<'_>, number: u64) -> Result<(), Damaged>
     ensures compares { Compares list.old list.new }
 {

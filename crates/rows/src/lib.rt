@@ -15,6 +15,7 @@ use compress::{Curve, Edge, Vertex};
 
 // ---- records
 
+// A kind is a number here, as it lies in a row: the C interface.
 fn kind_of(c: Curve) -> u32
     ensures { result ≡ kind_of c }
 {

@@ -134,7 +134,7 @@ fn seam_of(surface: u32, a: Stop, b: Stop) -> Edge
     }
 }
 
-// `create_new_edges`: a seam for each pair of vertices of the divisor is written to the rows past the table.
+// `create_new_edges`: a seam for each pair of vertices of the divisor is written to the rows past the table, whose count stays as it was lent.
 pub fn create_new_edges(edges: &mut TableMut<Edge>, divisor: &Divisor, surface: u32)
     requires numbers_room { (edges.old.count + divisor.now.count / 2) * 4 ≤ length edges.old.numbers.now }
     requires floats_room { (edges.old.count + divisor.now.count / 2) * 6 ≤ length edges.old.floats.now }

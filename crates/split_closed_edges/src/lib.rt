@@ -65,7 +65,7 @@ fn split_checked(
     ensures same_edges { SameTable edges.old edges.new }
     ensures same_wires { SameWires wires.old wires.new }
 {
-    let room = cutting::cut_room(vertices, edges);
+    let room = cutting::cut_room(&vertices.view(), &edges.view());
     let m = mend_closed(&edges.view(), wires, room)?;
     add_edges::add_edges(vertices, edges);
     Ok(Counts {
@@ -87,6 +87,6 @@ pub fn split_closed_edges(
     ensures same_edges { SameTable edges.old edges.new }
     ensures same_wires { SameWires wires.old wires.new }
 {
-    cutting::input_cause(vertices, edges, wires)?;
+    cutting::input_cause(&vertices.view(), &edges.view(), &wires.view())?;
     split_checked(vertices, edges, wires)
 }

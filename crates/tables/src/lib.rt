@@ -22,6 +22,7 @@ fn edge_row(vertices: usize, edges: &Table<Edge>, i: usize) -> Checked
     checks::lower(k, checks::edge(vertices, edges.at(i)))
 }
 
+// Kinds are judged as the numbers that are lent: the C interface.
 fn curve_kind(kind: u32, curve_kind: u32) -> Checked
     ensures { cause_of result ≡ curve_kind_cause kind curve_kind }
 {

@@ -139,7 +139,7 @@ impl LentEnds<'_> {
         ensures opens_after { take result opens.new ≡ wanted_below self.now.floats.now true self.now.count }
         ensures closed_after { take (self.now.count - result) closed.new ≡ wanted_below self.now.floats.now false self.now.count }
     {
-        // How many are open is the place of the next one, in fixed memory, since the calls that hosts make have no heap; i - at are closed.
+        // How many are open is the place of the next one, in fixed memory: no heap, and no crate of the kit here; i - at are closed.
         let mut at: usize = 0;
         for i in 0..self.count {
             if self.is_open(i) {

@@ -3,7 +3,7 @@ use Rattle.std.proofs.Common.{◌≡◌, ℕ, ◌+◌, ◌-◌, ◌≤◌, List,
 use Rattle.std.proofs.Common.{arith}
 use mathlib.Core.List.{append_assoc, append-nil}
 use lib.ListN.{take-append-drop, length-append, length-drop, drop_of_length-le}
-use lib.Seq.{length-take-le, take-length, take_all, take_at, drop_at, drop-drop}
+use lib.Seq.{length-take-le, take_all, take_at, drop_at, drop-drop}
 use Rattle.compress.specs.Wires.{total, uses_of}
 use Rattle.compress.proofs.Wires.{uses_all}
 use Rattle.rows.specs.declared.lent.Wires.{Wires}

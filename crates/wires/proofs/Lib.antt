@@ -2,3 +2,4 @@
 pub mod Turns
 pub mod Replaced
 pub mod Copying
+mod Places

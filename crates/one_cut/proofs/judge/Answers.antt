@@ -1,6 +1,6 @@
 use Rattle.std.proofs.Common.{arith, refl}
 use Rattle.std.proofs.lemmas.Result.{err_from_is_err_and}
-use Rattle.one_cut.proofs.Outcome.{call_cause, call_checked, call_none, call_several, call_once}
+use Rattle.one_cut.proofs.Outcome.{call_cause, call_checked, call_bare, call_several, call_once}
 use Rattle.one_cut.proofs.judge.Goals as goal
 
 pub returns-in_err-one_cut_cause : goal.returns-in_err-one_cut_cause
@@ -14,7 +14,7 @@ at-requires c = let h = call_checked _ _ _ _ _ _ _ _ _ _ _ _ _ c.in_ok-one_cut_c
 pub returns-in-0 : goal.returns-in-0
 returns-in-0 c =
     let h = call_checked _ _ _ _ _ _ _ _ _ _ _ _ _ c.in_ok-one_cut_cause.ensures refl in
-    (h.0, call_none _ _ _ _ _ _ _ _ _ _ _ _ _ c.in_ok-one_cut_cause.ensures refl c.in-0.is)
+    (h.0, call_bare _ _ _ _ _ _ _ _ _ _ _ _ _ c.in_ok-one_cut_cause.ensures refl c.in-0.is)
 
 pub returns-in-1 : goal.returns-in-1
 returns-in-1 c =
