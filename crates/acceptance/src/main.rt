@@ -112,12 +112,18 @@ fn write_case(rt: &impl Print, name: &str, is_same: bool) -> io::Result<()> {
 }
 
 fn write_cases(rt: &impl Print) -> io::Result<()> {
-    write_case(rt, "K14", is_k14_same())?;
-    write_case(rt, "K15", is_k15_same())?;
-    write_case(rt, "K16", is_k16_same())?;
-    write_case(rt, "K17", is_k17_same())?;
-    write_case(rt, "K18", is_k18_same())?;
-    write_case(rt, "K19", is_k19_same())
+    let cases = [
+        ("K14", is_k14_same()),
+        ("K15", is_k15_same()),
+        ("K16", is_k16_same()),
+        ("K17", is_k17_same()),
+        ("K18", is_k18_same()),
+        ("K19", is_k19_same()),
+    ];
+    for (name, is_same) in cases {
+        write_case(rt, name, is_same)?;
+    }
+    Ok(())
 }
 
 // A write that fails ends the program, and is not told.

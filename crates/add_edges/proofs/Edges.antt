@@ -7,13 +7,11 @@ use Prim.Native.Nat.{ℕ, suc, ◌+◌, ◌≤◌}
 use native.Mathlib.Omega.{arith}
 use borrow.Author.Tests.{eq-eqb, ne_eqb}
 use lib.ListN.{length}
-use lib.Ieee.{Float}
 use Rattle.compress.specs.declared.Edge.{Edge}
 use Rattle.compress.specs.declared.Vertex.{Vertex}
 use Rattle.compress.specs.Records.{closed}
 use Rattle.compress.specs.Layout.{Layout, put, store_from}
 use Rattle.compress.proofs.Layouts.{Fits, store_first, store_put}
-use Rattle.cut_edge.specs.declared.Halves.{Halves}
 use Rattle.cut_edge.specs.Cut.{middle_of, halves_of, pending_of}
 use Rattle.add_edges.specs.Steps.{cut_rows, pending_row, closed_count}
 use Rattle.add_edges.specs.Add.{next, kept_edge, new_edge, new_vertex, kept_edges, new_edges, new_vertices}
@@ -26,16 +24,6 @@ closed_yes r e q h = rw (← q) (eq-eqb _ _ h)
 pub closed_no : (r e : Edge) → r ≡ e → (r.front ≡ r.back → ⊥) → closed e ≡ false
 unfolding closed
 closed_no r e q h = rw (← q) (ne_eqb _ _ h)
-
--- the stores of a turn, from what its calls gave
-module _ {A : Type 0} (r e : Edge) (q : r ≡ e) where
-  pub pending_put : (l : Layout A Vertex) (s s' : List A) (n : ℕ) (v : Vertex) → s' ≡ put l s n v → v ≡ pending_of r
-      → s' ≡ pending_row l true n e s
-  pending_put l s s' n v p a = rw (p, a, q)
-
-  pub halves_put : (l : Layout A Edge) (s s₁ s₂ : List A) (n i m : ℕ) (t : Float) (h : Halves) → s₁ ≡ put l s i h.old → s₂ ≡ put l s₁ m h.new
-      → h ≡ halves_of r t n → t ≡ middle_of r.curve → s₂ ≡ cut_rows l true n i m e s
-  halves_put l s s₁ s₂ n i m t h p₁ p₂ a b = rw (p₂, p₁, a, b, q)
 
 -- ---- the lists of `Pass`, one edge further, at a name for its test
 module _ (n : ℕ) (e : Edge) (es : List Edge) (b : Bool) (q : b ≡ closed e) where

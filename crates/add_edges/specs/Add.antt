@@ -1,6 +1,6 @@
 -- Document 001's `add_edges`, on values. Definitions only.
 -- In each, n is the next free vertex number and m the next free edge number.
-use Rattle.std.specs.Prelude.{Bool, true, false, List, [], ◌∷◌, ◌++◌, ℕ, ◌+◌}
+use Rattle.std.specs.Prelude.{Bool, true, false, Option, Some, None, List, [], ◌∷◌, ◌++◌, ℕ, ◌+◌}
 use Rattle.compress.specs.declared.Edge.{Edge}
 use Rattle.compress.specs.declared.Vertex.{Vertex}
 use Rattle.compress.specs.Records.{closed, pick}
@@ -38,7 +38,7 @@ unfoldable pub new_vertices : List Edge → List Vertex
 new_vertices [] = []
 new_vertices (e ∷ es) = new_vertex (closed e) e ++ new_vertices es
 
--- `added`: for each edge number that of the edge cut off it, and 0 where it was not cut. (No appended edge has the number 0.)
-unfoldable pub added_to : ℕ → List Edge → List ℕ
+-- `added`: for each edge number that of the edge cut off it, and nothing where it was not cut
+unfoldable pub added_to : ℕ → List Edge → List (Option ℕ)
 added_to m [] = []
-added_to m (e ∷ es) = pick (closed e) m 0 ∷ added_to (next (closed e) m) es
+added_to m (e ∷ es) = pick (closed e) (Some m) None ∷ added_to (next (closed e) m) es

@@ -1,5 +1,5 @@
 -- What the steps of the pass ask and leave: one turn of `add_edges`, all of it, and its map. Definitions only.
-use Rattle.std.specs.Prelude.{Bool, true, false, ◌≡◌, List, [], ◌∷◌, ◌++◌, ℕ, ◌+◌, ◌*◌, ◌≤◌, ◌<◌, length, get_or, drop, Float}
+use Rattle.std.specs.Prelude.{Bool, true, false, ◌≡◌, Option, List, [], ◌∷◌, ◌++◌, ℕ, ◌+◌, ◌*◌, ◌≤◌, ◌<◌, length, get_or, drop, Float}
 use Rattle.compress.specs.declared.Edge.{Edge}
 use Rattle.compress.specs.declared.Vertex.{Vertex}
 use Rattle.compress.specs.Records.{closed}
@@ -49,6 +49,6 @@ pub record Added (n count : ℕ) (vn : List ℕ) (vf : List Float) (en : List �
   pub edge_floats : ef' ≡ store edge_float_layout ef (kept_edges n (rows (edge_at en ef) 0 count) ++ new_edges n (rows (edge_at en ef) 0 count))
 
 -- the map of `add_edges` written over the front of a table, and how many edges are closed
-pub record Marked (es : List Edge) (before added : List ℕ) (r : ℕ) : Type 0 where
+pub record Marked (es : List Edge) (before added : List (Option ℕ)) (r : ℕ) : Type 0 where
   pub map : added ≡ added_to (length es) es ++ drop (length es) before
   pub count : r ≡ closed_count es

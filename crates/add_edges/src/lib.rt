@@ -43,15 +43,17 @@ fn add_edge(
     if e.front != e.back {
         return false;
     }
-    let h = cut_edge::cut_held(e, cut_edge::middle(e.curve), n as u32);
+    let mut first = e;
+    let second = cut_edge::cut_edge(&mut first, cut_edge::middle(e.curve), n as u32);
     vertices.put(n, cut_edge::pending(e));
-    edges.put(i, h.old);
-    edges.put(m, h.new);
+    edges.put(i, first);
+    edges.put(m, second);
     true
 }
 
 // `add_edges`: closed edges are cut in rising number, and appended ones are not looked at again. Rows are counted here and not in the tables, whose
-// counts stay as they were lent.
+// counts stay as they were lent: with a `push` that counts there, each function that writes a table would say besides what its count becomes, and
+// `SameTable` would be two records. So in `cuts` and `seams` too.
 pub fn add_edges(vertices: &mut TableMut<Vertex>, edges: &mut TableMut<Edge>)
     requires { let v = vertices.old in
         let e = edges.old in
@@ -75,9 +77,10 @@ pub fn add_edges(vertices: &mut TableMut<Vertex>, edges: &mut TableMut<Edge>)
 
 // ---- the map
 
-// The map that `add_edges` gives: for each edge the number of the edge that is cut off it, and 0 where it is not closed.
-// The answer is how many are closed. No table of Option<u32>: to fill 4,096 of those takes 1,357 ns, of numbers 94 (measured).
-pub fn mark_closed(edges: &Table<Edge>, added: &mut [u32]) -> usize
+// The map that `add_edges` gives: for each edge the number of the edge that is cut off it, and nothing where it is not closed.
+// The answer is how many are closed.
+// Of the edges the numbers are read, and lent as a table all the same: alone they would have a count beside them again.
+pub fn mark_closed(edges: &Table<Edge>, added: &mut [Option<u32>]) -> usize
     requires { (edges.now.count ≤ 4096) × (edges.now.count * 4 ≤ length edges.now.numbers.now) × (edges.now.count ≤ length added.old) }
     ensures { (fs : List Float) → Marked (rows (edge_at edges.now.numbers.now fs) 0 edges.now.count) added.old added.new result }
 {
@@ -86,7 +89,7 @@ pub fn mark_closed(edges: &Table<Edge>, added: &mut [u32]) -> usize
     // Written by number: over a zip with `iter_mut` the proof did not close, since what the loop wrote is not known after it.
     for (i, row) in edges.numbers[..count * 4].chunks_exact(4).enumerate() {
         let cut = row[0] == row[1];
-        added[i] = if cut { m } else { 0 };
+        added[i] = cut.then_some(m);
         m += u32::from(cut);
     }
     m as usize - count

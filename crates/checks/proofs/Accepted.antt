@@ -1,7 +1,7 @@
 -- What an input without a cause is: within its bounds and what was lent, and every row, kind and use in order.
 -- Assumes nothing.
 use mathlib.Core.Path.{◌≡◌, refl}
-use mathlib.Core.Bool.{Bool, true, false, ◌&&◌}
+use mathlib.Core.Bool.{Bool, true, false, false≢true, ◌&&◌}
 use mathlib.Core.List.{List}
 use Prim.Native.Nat.{ℕ, suc, ◌+◌, ◌*◌, ◌/◌, ◌≤◌, ◌<◌}
 use native.Mathlib.Omega.{arith}
@@ -17,9 +17,12 @@ use Rattle.checks.specs.Causes.{when, kind_cause, curve_kind_cause, edge_cause, 
 use Rattle.checks.proofs.Lowest.{lower_none, lowest_none}
 
 -- a test with a cause of its own did not hold, and what follows it has none
+pub passed_by : (k : ℕ) (b : Bool) (n : ℕ) → pick b (suc k) n ≡ 0 → (b ≡ false) × (n ≡ 0)
+passed_by k true n e = absurd (omega arith)
+passed_by k false n e = (refl, e)
+
 pub passed : (b : Bool) (n : ℕ) → pick b 1 n ≡ 0 → (b ≡ false) × (n ≡ 0)
-passed true n e = absurd (omega arith)
-passed false n e = (refl, e)
+passed = passed_by 0
 
 pub not_when : (b : Bool) (n : ℕ) → when b (suc n) ≡ 0 → b ≡ false
 not_when true n e = absurd (omega arith)
@@ -27,10 +30,7 @@ not_when false n e = refl
 
 and_known : (a b : Bool) → (a && b) ≡ false → a ≡ true → b ≡ false
 and_known true b e q = e
-and_known false b e q = absurd (none q)
-  where
-    none : false ≡ true → ⊥
-    none p = let z : ◌≡◌ {A = ℕ} 0 1 = cc in omega arith
+and_known false b e q = absurd (false≢true q)
 
 kind_known : (k : ℕ) → kind_cause k ≡ 0 → k < 2
 kind_known k e = let h = ltb-false 1 k (not_when (ltb 1 k) 0 e) in omega arith

@@ -1,6 +1,6 @@
 -- The lowest cause wins: it is one of the causes, none is lower, and where it is 0 there is none.
 -- Assumes nothing.
-use mathlib.Core.Path.{◌≡◌, refl, ◌∙◌}
+use mathlib.Core.Path.{◌≡◌, refl, ap, sym, ◌∙◌}
 use mathlib.Core.List.{List}
 use mathlib.Core.Logic.{◌⊎◌, inl, inr, ⊎_elim}
 use Prim.Native.Nat.{ℕ, zero, suc, ◌+◌, ◌≤◌, ◌<◌, min}
@@ -57,6 +57,25 @@ lower_last a = by (lower_is a 0)
     by (first p q r) = q
     by (second p q r) = absurd (omega arith)
 
+lower_more : (a b : ℕ) → lower_of (suc a) (suc b) ≡ suc (min a b)
+unfolding lower_of
+lower_more a b = rw (eqb-suc-zero a, eqb-suc-zero b) (omega arith)
+
+pub lower_swap : (a b : ℕ) → lower_of a b ≡ lower_of b a
+lower_swap zero b = rw (lower_first b, lower_last b)
+lower_swap (suc a) zero = rw (lower_first (suc a), lower_last (suc a))
+lower_swap (suc a) (suc b) = rw (lower_more a b, lower_more b a) (omega arith)
+
+pub lower_join : (a b c : ℕ) → lower_of (lower_of a b) c ≡ lower_of a (lower_of b c)
+lower_join zero b c = rw (lower_first b, lower_first (lower_of b c))
+lower_join (suc a) zero c = rw (lower_last (suc a), lower_first c)
+lower_join (suc a) (suc b) zero = rw (lower_last (lower_of (suc a) (suc b)), lower_last (suc b))
+lower_join (suc a) (suc b) (suc c) = rw (lower_more a b, lower_more b c, lower_more (min a b) c, lower_more a (min b c)) (omega arith)
+
+lower_pairs : (a b c d : ℕ) → lower_of (lower_of a b) (lower_of c d) ≡ lower_of (lower_of a c) (lower_of b d)
+lower_pairs a b c d =
+    lower_join a b (lower_of c d) ∙ ap (lower_of a) (sym (lower_join b c d) ∙ ap (λ x. lower_of x d) (lower_swap b c) ∙ lower_join c b d) ∙ sym (lower_join a c (lower_of b d))
+
 -- of two refusals
 pub lower_refusals : (x y r : Refusal) → refusal_number r ≡ min (refusal_number x) (refusal_number y) → refusal_number r ≡ lower_of (refusal_number x) (refusal_number y)
 unfolding lower_of
@@ -79,6 +98,12 @@ last i n h = eq-or-lt_of_le (less h)
   where
     less : i < suc n → i ≤ n
     less g = omega arith
+
+-- of rows with two causes each it is the lower of the two lowest
+pub lowest_both : (f g : ℕ → ℕ) (n : ℕ) → lowest_of (λ i. lower_of (f i) (g i)) n ≡ lower_of (lowest_of f n) (lowest_of g n)
+unfolding lowest_of
+lowest_both f g zero = sym (lower_first 0)
+lowest_both f g (suc n) = ap (λ x. lower_of x (lower_of (f n) (g n))) (lowest_both f g n) ∙ lower_pairs (lowest_of f n) (lowest_of g n) (f n) (g n)
 
 -- it is told by the first n causes alone
 pub lowest_same : (f g : ℕ → ℕ) (n : ℕ) → ((i : ℕ) → i < n → f i ≡ g i) → lowest_of f n ≡ lowest_of g n

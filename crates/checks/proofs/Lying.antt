@@ -2,6 +2,7 @@
 use Rattle.std.proofs.Common.{◌≡◌, ℕ, ◌≤◌, ◌<◌, Bool, true, false, ◌&&◌, List, [], ◌∷◌, zero, suc, length, get_or, take, leb, ltb, MatchOption, Option, Result, Ok, Err, refl, sym, ap, subst, ◌∙◌}
 use Rattle.std.specs.Result.{result_ok}
 use Rattle.std.proofs.Common.{arith}
+use mathlib.Core.Bool.{true≢false, false≢true}
 use borrow.Author.Tests.{leb-true, leb-false, lt-ltb, le-ltb}
 use Rattle.compress.specs.Records.{pick}
 use Rattle.compress.specs.Wires.{total}
@@ -25,12 +26,6 @@ pub data Lacking (w : Wires) : Type 0 where
   no_lengths : w.count ≤ 64 → length w.lengths.now < w.count → Lacking w
   no_uses : w.count ≤ 64 → w.count ≤ length w.lengths.now → length w.uses.now < total (take w.count w.lengths.now) → Lacking w
 
-not_both : false ≡ true → ⊥
-not_both p = let z : ◌≡◌ {A = ℕ} 0 1 = cc in omega arith
-
-both_not : true ≡ false → ⊥
-both_not p = let z : ◌≡◌ {A = ℕ} 0 1 = cc in omega arith
-
 module _ (w : Wires) where
   abbrev n : ℕ
   n = w.count
@@ -43,9 +38,9 @@ module _ (w : Wires) where
     where
       by : (a b c : Bool) → leb n 64 ≡ a → leb n (length w.lengths.now) ≡ b → leb t (length w.uses.now) ≡ c → (a && (b && c)) ≡ true → Lying w
       by true true true p q r h = record { few = leb-true _ _ p; lengths = leb-true _ _ q; uses = leb-true _ _ r }
-      by false b c p q r h = absurd (not_both h)
-      by true false c p q r h = absurd (not_both h)
-      by true true false p q r h = absurd (not_both h)
+      by false b c p q r h = absurd (false≢true h)
+      by true false c p q r h = absurd (false≢true h)
+      by true true false p q r h = absurd (false≢true h)
 
   pub lacking : lie_in w ≡ false → Lacking w
   lacking h = by (leb n 64) (leb n (length w.lengths.now)) (leb t (length w.uses.now)) refl refl refl h
@@ -54,7 +49,7 @@ module _ (w : Wires) where
       by false b c p q r h = many (leb-false _ _ p)
       by true false c p q r h = no_lengths (leb-true _ _ p) (leb-false _ _ q)
       by true true false p q r h = no_uses (leb-true _ _ p) (leb-true _ _ q) (leb-false _ _ r)
-      by true true true p q r h = absurd (both_not h)
+      by true true true p q r h = absurd (true≢false h)
 
 -- ---- tests with cause 1, one after the other
 abbrev pub chain : List Bool → ℕ → ℕ
@@ -63,9 +58,9 @@ chain (b ∷ bs) n = pick b 1 (chain bs n)
 
 -- where one of them holds the cause is 1
 pub hit : (bs : List Bool) (n k : ℕ) → get_or bs k false ≡ true → chain bs n ≡ 1
-hit [] n k e = absurd (not_both e)
+hit [] n k e = absurd (false≢true e)
 hit (true ∷ bs) n k e = refl
-hit (false ∷ bs) n zero e = absurd (not_both e)
+hit (false ∷ bs) n zero e = absurd (false≢true e)
 hit (false ∷ bs) n (suc k) e = hit bs n k e
 
 -- ---- the wires of one slice

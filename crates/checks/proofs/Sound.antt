@@ -1,7 +1,7 @@
 -- What the tests of the first pass say: a row that passes them has no cause. Assumes nothing.
 use mathlib.Core.Path.{◌≡◌, refl, sym, ◌∙◌}
 use mathlib.Core.Bool.{Bool, true, false, not, ◌&&◌}
-use mathlib.Core.List.{List}
+use mathlib.Core.List.{List, [], ◌∷◌}
 use Prim.Native.Nat.{ℕ, zero, suc, ◌+◌, ◌*◌, ◌≤◌, ◌<◌}
 use native.Mathlib.Numerals.{add-one}
 use native.Mathlib.Omega.{arith}
@@ -11,9 +11,8 @@ use lib.ListN.{length, get_or}
 use lib.Ieee.{Float, nan, inf, fin, binary64, up, down, below, neg, le, lt, fits}
 use lib.Ieee.Fits.{and_i, and_l, and_r}
 use lib.Ieee.Scale.{finite}
-use Rattle.std.specs.Bool.{MatchBool}
-use Rattle.std.specs.List.{range_with_len, AllWithin}
-use Rattle.std.proofs.lemmas.List.FromFn.{length-range_with_len, get_or-range_with_len}
+use Rattle.std.specs.Prelude.{fold}
+use Rattle.std.proofs.lemmas.Bool.{and_parts}
 use Rattle.floats.specs.Exact.{big, sized_of}
 use Rattle.floats.specs.Value.{Held, Sle, test→sle}
 use Rattle.floats.specs.Rounds.{neg_held, held_between}
@@ -29,13 +28,6 @@ use Rattle.checks.specs.Causes.{table_cause, when, lower_of, lowest_of, float_ca
 use Rattle.checks.proofs.Lowest.{lower_first, lower_none}
 
 -- ---- tests
-pub no : {A : Type 0} → false ≡ true → A
-no p = let z : ◌≡◌ {A = ℕ} 0 1 = cc in absurd (omega arith)
-
-pub both : (a b : Bool) → (a && b) ≡ true → (a ≡ true) × (b ≡ true)
-both true b e = (refl, e)
-both false b e = no e
-
 pub holds : (b : Bool) → b ≡ true → T b
 holds b e = rw e tt
 
@@ -65,18 +57,23 @@ unfolding lowest_of
 lowest_all f zero h = refl
 lowest_all f (suc n) h = lower_zero (lowest_of f n) (f n) (lowest_all f n (λ i p. h i (omega arith))) (h n (omega arith))
 
--- what `all` tells of the rows below n, where a row that passes has no cause
-pub lowest_passed : (f : ℕ → ℕ) (n : ℕ) (r : Bool) (No : Type 0) → MatchBool r (AllWithin (λ i. f i ≡ 0) (range_with_len 0 n) 0 (length (range_with_len 0 n))) No
-    → r ≡ true → lowest_of f n ≡ 0
-lowest_passed f n true No h e =
-    lowest_all f n (λ i p. let q : get_or (range_with_len 0 n) i 0 ≡ i = get_or-range_with_len 0 n i 0 p ∙ omega arith in rw q at (h i 0 (omega arith) (rw (length-range_with_len 0 n) p)))
-lowest_passed f n false No h e = no e
+-- a test of every item, with no way out, says yes: then each passes
+pub folded : (f : ℕ → Bool) (us : List ℕ) (b : Bool) → fold (λ s u. s && f u) b us ≡ true → (b ≡ true) × ((k : ℕ) → k < length us → f (get_or us k 0) ≡ true)
+folded f [] b e = (e, λ k h. absurd (omega arith))
+folded f (u ∷ us) b e = by (folded f us (b && f u) e)
+  where
+    by : (b && f u ≡ true) × ((k : ℕ) → k < length us → f (get_or us k 0) ≡ true) → (b ≡ true) × ((k : ℕ) → k < length (u ∷ us) → f (get_or (u ∷ us) k 0) ≡ true)
+    by r = ((and_parts b (f u) r.0).0, at r)
+      where
+        at : (b && f u ≡ true) × ((k : ℕ) → k < length us → f (get_or us k 0) ≡ true) → (k : ℕ) → k < length (u ∷ us) → f (get_or (u ∷ us) k 0) ≡ true
+        at r zero h = (and_parts b (f u) r.0).1
+        at r (suc k) h = r.1 k (omega arith)
 
 -- a table that fits, and whose rows have no cause
 pub table_passed : (w v : ℕ) (f : ℕ → ℕ) (ns : List ℕ) (fs : List Float) (n : ℕ) → rows_fit w v ns fs n ≡ true → ((i : ℕ) → i < n → f i ≡ 0) → 0 ≡ table_cause w v f ns fs n
 table_passed w v f ns fs n q h =
-    let p = both (leb n 4096) _ q in
-    let r = both (leb (n * w) (length ns)) (leb (n * v) (length fs)) p.1 in
+    let p = and_parts (leb n 4096) _ q in
+    let r = and_parts (leb (n * w) (length ns)) (leb (n * v) (length fs)) p.1 in
     rw (le-ltb 4096 n (leb-true n 4096 p.0), le-ltb (length ns) (n * w) (leb-true (n * w) (length ns) r.0), le-ltb (length fs) (n * v) (leb-true (n * v) (length fs) r.1))
     (sym (lowest_all f n h))
 

@@ -7,8 +7,8 @@ use Prim.Native.Nat.{ℕ, zero, suc, ◌+◌, ◌*◌, ◌≤◌, ◌<◌}
 use native.Mathlib.Nat.{mul-le-mul_right}
 use native.Mathlib.Omega.{arith}
 use native.Mathlib.Decide.{dec_lt}
-use lib.ListN.{length, get_or, set, take, drop, length-append, length-drop, get_or-append}
-use lib.Seq.{sets, sets-eq, get_or-set_other, set_comm, set-get_or, get_or-append-add, length-take-le, take_at, take-suc, drop-append-add, drop-drop}
+use lib.ListN.{length, get_or, set, take, drop, replicate, length-append, get_or-append}
+use lib.Seq.{sets, sets-eq, get_or-set_other, set_comm, set-get_or, get_or-append-add, length-take-le, take_at, take-suc}
 
 module _ {A : Type 0} (d : A) where
   -- what was written at place k of the run is read at its cell m
@@ -99,6 +99,12 @@ module _ {A : Type 0} (l : List A) (a : ℕ) where
       let p : a + 5 ≡ suc (a + 4) = omega arith in
       rw p
 
+-- a list of one cell is that cell everywhere
+pub all_alike : {A : Type 0} (a : A) (n k : ℕ) → get_or (replicate n a) k a ≡ a
+all_alike a zero k = refl
+all_alike a (suc n) zero = refl
+all_alike a (suc n) (suc k) = all_alike a n k
+
 -- rows do not meet
 pub row_below : (i j w : ℕ) → i < j → i * w + w ≤ j * w
 row_below i j w h =
@@ -113,33 +119,13 @@ apart m i ne = pick (dec_lt m i)
     pick (yes h) = inl h
     pick (no h) = inr (omega (arith, ne, h))
 
--- ---- a buffer that is filled from the front: what is done, and then what it held
-module _ {A : Type 0} (done out : List A) (k : ℕ) (e : length done ≡ k) where
-  pub fill_length : k ≤ length out → length (done ++ drop k out) ≡ length out
-  fill_length h = simp (length-append, length-drop) (omega arith)
-
-  pub fill_more : (vs : List A) → k + length vs ≤ length out → sets (done ++ drop k out) k vs ≡ (done ++ vs) ++ drop (k + length vs) out
-  fill_more vs h =
-      let l : length (done ++ drop k out) ≡ length out = fill_length (omega arith) in
-      let p : drop (k + length vs) (done ++ drop k out) ≡ drop (k + length vs) out
-      = rw (← e) (drop-append-add done (drop (length done) out) (length vs) ∙ drop-drop (length vs) (length done) out) in
-      sets-eq vs (done ++ drop k out) k (omega arith) ∙ rw (take_at done (drop k out) k e, p)
-
-  pub fill_one : (x : A) → k < length out → set (done ++ drop k out) k x ≡ (done ++ (x ∷ [])) ++ drop (k + 1) out
-  fill_one x h = fill_more (x ∷ []) (omega arith)
-
+-- ---- the front of a list
 pub take_more : {A : Type 0} (d : A) (l : List A) (i : ℕ) → i < length l → take (i + 1) l ≡ take i l ++ (get_or l i d ∷ [])
 take_more d l i h =
     let q : i + 1 ≡ suc i = omega arith in
     rw q (take-suc l i d h)
 
--- one turn of a copy: what is done is the front of `from`
-pub copy_more : {A : Type 0} (d : A) (from to₀ to : List A) (i : ℕ) → i < length from → i < length to₀
-    → to ≡ take i from ++ drop i to₀ → set to i (get_or from i d) ≡ take (i + 1) from ++ drop (i + 1) to₀
-copy_more d from to₀ to i hf ht q =
-    rw (q, take_more d from i hf) (fill_one (take i from) to₀ i (length-take-le i from (omega arith)) (get_or from i d) ht)
-
--- the front of a buffer, one run further
+-- a buffer, one run further
 pub take_sets : {A : Type 0} (out ps : List A) (k : ℕ) → k + length ps ≤ length out → take (k + length ps) (sets out k ps) ≡ take k out ++ ps
 take_sets out ps k h =
     let t : length (take k out) ≡ k = length-take-le k out (omega arith) in

@@ -1,5 +1,6 @@
 pub mod Choices
 pub mod Cells
+pub mod Rest
 pub mod Layouts
 pub mod Rows
 pub mod Room

@@ -1,27 +1,20 @@
 -- What room for a result is, in numbers.
 -- Assumes nothing.
-use mathlib.Core.Path.{◌≡◌, refl}
-use mathlib.Core.Bool.{Bool, true, false, ◌&&◌}
+use mathlib.Core.Path.{◌≡◌}
+use mathlib.Core.Bool.{true, ◌&&◌}
 use mathlib.Core.List.{List}
 use Prim.Native.Nat.{ℕ, ◌*◌, ◌≤◌}
-use native.Mathlib.Omega.{arith}
 use borrow.Author.Tests.{leb-true}
 use lib.Dec.{leb}
 use lib.ListN.{length}
 use lib.Ieee.{Float}
+use Rattle.std.proofs.lemmas.Bool.{and_parts}
 use Rattle.compress.specs.Shell.{rows_fit, vertices_fit, edges_fit, uses_fit}
-
-pub both : (a b : Bool) → (a && b) ≡ true → (a ≡ true) × (b ≡ true)
-both true b e = (refl, e)
-both false b e = absurd (none e)
-  where
-    none : false ≡ true → ⊥
-    none p = let z : ◌≡◌ {A = ℕ} 0 1 = cc in omega arith
 
 three : (a b c : ℕ) (x y z : ℕ) → (leb a x && (leb b y && leb c z)) ≡ true → (a ≤ x) × (b ≤ y) × (c ≤ z)
 three a b c x y z e =
-    let p = both (leb a x) (leb b y && leb c z) e in
-    let q = both (leb b y) (leb c z) p.1 in
+    let p = and_parts (leb a x) (leb b y && leb c z) e in
+    let q = and_parts (leb b y) (leb c z) p.1 in
     (leb-true a x p.0, leb-true b y q.0, leb-true c z q.1)
 
 pub rows_room : (w v : ℕ) (ns : List ℕ) (fs : List Float) (n : ℕ) → rows_fit w v ns fs n ≡ true → (n ≤ 4096) × (n * w ≤ length ns) × (n * v ≤ length fs)
@@ -38,5 +31,5 @@ edges_room = rows_room 4 6
 pub uses_room : (us : List ℕ) (n : ℕ) → uses_fit us n ≡ true → (n ≤ 1024) × (n ≤ length us)
 unfolding uses_fit
 uses_room us n e =
-    let p = both (leb n 1024) (leb n (length us)) e in
+    let p = and_parts (leb n 1024) (leb n (length us)) e in
     (leb-true n 1024 p.0, leb-true n (length us) p.1)

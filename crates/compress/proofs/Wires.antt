@@ -7,7 +7,7 @@ use native.Mathlib.Numerals.{add-one}
 use native.Mathlib.Omega.{arith}
 use lib.ListN.{length, get_or, take, drop, length-drop}
 use lib.Seq.{take-suc, take-add, drop-cons, drop-drop, length-take-le, get_or-take, get_or-drop}
-use Rattle.compress.specs.Wires.{total, wires_of, uses_of}
+use Rattle.compress.specs.Wires.{total, wires_of, uses_of, lengths_of}
 
 module _ (us ls : List ℕ) (n w from : ℕ) (lent : n ≤ length ls) (lt : w < n) where
   -- the lengths that are left: that of wire w, and the rest
@@ -29,11 +29,6 @@ module _ (us ls : List ℕ) (n w from : ℕ) (lent : n ≤ length ls) (lt : w < 
       let p : get_or ls w 0 ≡ from + get_or ls w 0 - from = omega arith in
       rw (lengths_first, drop-drop, ← p)
 
-  pub wire_size : from + get_or ls w 0 ≤ length us → length (take (from + get_or ls w 0 - from) (drop from us)) ≡ get_or ls w 0
-  wire_size h =
-      let p : from + get_or ls w 0 - from ≡ get_or ls w 0 = omega arith in
-      rw p (length-take-le (get_or ls w 0) (drop from us) (rw length-drop (omega arith)))
-
 -- a part of a list, and what it reads
 pub part_at : {A : Type 0} (d : A) (l : List A) (a b k : ℕ) → k < b - a → get_or (take (b - a) (drop a l)) k d ≡ get_or l (a + k) d
 part_at d l a b k h = get_or-take (b - a) (drop a l) k d h ∙ get_or-drop a l k d
@@ -46,13 +41,14 @@ pub total_none : (ls : List ℕ) → total (take 0 ls) ≡ 0
 unfolding total
 total_none ls = refl
 
-total_append : (a : List ℕ) (n : ℕ) → total (a ++ (n ∷ [])) ≡ total a + n
+pub total_both : (a b : List ℕ) → total (a ++ b) ≡ total a + total b
 unfolding total
-total_append [] n = omega arith
-total_append (x ∷ a) n = omega (arith, total_append a n)
+total_both [] b = omega arith
+total_both (x ∷ a) b = omega (arith, total_both a b)
 
 pub total_more : (ls : List ℕ) (k : ℕ) → k < length ls → total (take (k + 1) ls) ≡ total (take k ls) + get_or ls k 0
-total_more ls k h = rw (add-one k, take-suc ls k 0 h) (total_append (take k ls) (get_or ls k 0))
+unfolding total
+total_more ls k h = rw (add-one k, take-suc ls k 0 h) (omega (arith, total_both (take k ls) (get_or ls k 0 ∷ [])))
 
 -- ---- the uses of all wires
 pub uses_all : (us ls : List ℕ) → uses_of (wires_of us ls) ≡ take (total ls) us
@@ -60,7 +56,16 @@ unfolding uses_of wires_of total
 uses_all us [] = refl
 uses_all us (n ∷ ls) = rw (uses_all (drop n us) ls) (sym (take-add n (total ls) us))
 
+-- and how many they are
+pub uses_lent : (us ls : List ℕ) → total ls ≤ length us → length (uses_of (wires_of us ls)) ≡ total ls
+uses_lent us ls h = ap length (uses_all us ls) ∙ length-take-le (total ls) us h
+
 -- ---- as many wires as lengths
+pub length_lengths : (ws : List (List ℕ)) → length (lengths_of ws) ≡ length ws
+unfolding lengths_of
+length_lengths [] = refl
+length_lengths (w ∷ ws) = ap suc (length_lengths ws)
+
 pub length_wires : (us ls : List ℕ) → length (wires_of us ls) ≡ length ls
 unfolding wires_of
 length_wires us [] = refl

@@ -8,3 +8,7 @@ use Rattle.compress.specs.Choice.{zero64}
 unfoldable pub point_of : Vertex → Xyz
 point_of (Given x y z) = record { x = x; y = y; z = z }
 point_of (Pending c t) = record { x = zero64; y = zero64; z = zero64 }
+
+-- the vertex that is given as a point
+abbrev pub given : Xyz → Vertex
+given p = Given p.x p.y p.z

@@ -24,6 +24,6 @@ lengths_of (w ∷ ws) = length w ∷ lengths_of ws
 abbrev pub over : List ℕ → List ℕ → List ℕ
 over front slice = front ++ drop (length front) slice
 
--- each use is of an edge below n
+-- each use is of an edge below n: a clause, here and where wires are readable or joinable, and no type of a wire, since the bound is another value's
 abbrev pub UsesBelow : ℕ → List ℕ → Type 0
 UsesBelow n us = (k : ℕ) → k < length us → get_or us k 0 / 2 < n

@@ -1,10 +1,10 @@
 // The records of document 003 (`compress.rs`), the refusals of document 01, and the rows in which records lie in lent slices.
 #![tactic(auto)]
 
-ghost use Rattle.std.specs.Prelude.{◌≡◌, ◌+◌, ◌*◌, ◌/◌, ◌≤◌, length, get_or};
+ghost use Rattle.std.specs.Prelude.{◌≡◌, ◌+◌, ◌*◌, ◌/◌, ◌≤◌, pos, length, get_or};
 ghost use Rattle.std.specs.Float.{nan};
 ghost use Rattle.compress.specs.Records.{front_of, front_at, first_of, last_of};
-ghost use Rattle.compress.specs.Points.{point_of};
+ghost use Rattle.compress.specs.Points.{point_of, given};
 ghost use Rattle.compress.specs.Refusals.{refusal_number};
 ghost use Rattle.compress.specs.Layout.{put};
 ghost use Rattle.compress.specs.Rows.{HasRow, curve_of, curve_at, edge_at, vertex_at};
@@ -41,6 +41,19 @@ pub enum Curve {
     },
 }
 
+impl Uv {
+    // The point of the two floats from place j on. By cell, here and below: no conversion of std makes a record of a part of a slice.
+    pub fn read(floats: &[f64], j: usize) -> Uv
+        requires { j + 2 ≤ length floats.now }
+        ensures { result ≡ record { u = get_or floats.now j nan; v = get_or floats.now (j + 1) nan } }
+    {
+        Uv {
+            u: floats[j],
+            v: floats[j + 1],
+        }
+    }
+}
+
 impl Xyz {
     // The point of the three floats from place j on.
     pub fn read(floats: &[f64], j: usize) -> Xyz
@@ -74,7 +87,8 @@ pub struct Edge {
     pub curve: Curve,
 }
 
-// A point of `CompressedShell`'s `vertices`: its coordinates, or the curve as it was before the cut, with the parameter.
+// A point of `CompressedShell`'s `vertices`: its coordinates, or the curve as it was before the cut, with the parameter. Three floats and no `Xyz`:
+// the definitions of rows, causes and cuts speak of each.
 #[derive(Clone, Copy)]
 pub enum Vertex {
     Given { x: f64, y: f64, z: f64 },
@@ -95,6 +109,19 @@ impl From<Vertex> for Xyz {
                 y: 0.0,
                 z: 0.0,
             },
+        }
+    }
+}
+
+// The vertex that is given as a point.
+impl From<Xyz> for Vertex {
+    ghost from_gives = { λ p v. v ≡ given p };
+
+    fn from(p: Xyz) -> Vertex {
+        Vertex::Given {
+            x: p.x,
+            y: p.y,
+            z: p.z,
         }
     }
 }
@@ -126,6 +153,15 @@ impl From<Refusal> for u32 {
 
     fn from(r: Refusal) -> u32 {
         r as u32
+    }
+}
+
+// The same as the code of a call.
+impl From<Refusal> for i32 {
+    ghost from_gives = { λ r n. n ≡ pos (refusal_number r) };
+
+    fn from(r: Refusal) -> i32 {
+        r as i32
     }
 }
 
@@ -168,23 +204,19 @@ fn curve_of(kind: u32, number: u32, p: Uv, q: Uv, t0: f64, t1: f64) -> Curve
     }
 }
 
-// The curve of a kind and a number, with its floats from place j on.
+// The curve of a kind and a number, with its floats from place j on. A slice and a place, here and in `rows`, `tables` and `loops`: a part of the slice
+// would be named at each call by that place and a length.
 fn curve_at(kind: u32, number: u32, floats: &[f64], j: usize) -> Curve
     requires { j + 6 ≤ length floats.now }
     ensures { result ≡ curve_at kind number floats.now j }
 {
-    let p = Uv {
-        u: floats[j],
-        v: floats[j + 1],
-    };
-    let q = Uv {
-        u: floats[j + 2],
-        v: floats[j + 3],
-    };
+    let p = Uv::read(floats, j);
+    let q = Uv::read(floats, j + 2);
     curve_of(kind, number, p, q, floats[j + 4], floats[j + 5])
 }
 
-// The edge of row i.
+// The edge of row i. Here, as `vertex_at` is, beside the definition of its row, a public name that stood before the trait `rows::tables::Row`, which picks
+// one of the two by the record.
 pub fn edge_at(numbers: &[u32], floats: &[f64], i: usize) -> Edge
     requires { HasRow 4 6 numbers.now floats.now i }
     ensures { result ≡ edge_at numbers.now floats.now i }
@@ -215,8 +247,7 @@ pub fn vertex_at(numbers: &[u32], floats: &[f64], i: usize) -> Vertex
     let a = i * 3;
     let b = i * 7;
     if numbers[a] == 0 {
-        let Xyz { x, y, z } = Xyz::read(floats, b);
-        return Vertex::Given { x, y, z };
+        return Vertex::from(Xyz::read(floats, b));
     }
     let curve = curve_at(numbers[a + 1], numbers[a + 2], floats, b);
     Vertex::Pending {

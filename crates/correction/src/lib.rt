@@ -6,10 +6,11 @@ ghost use Rattle.compress.specs.Refusals.{cause_of};
 ghost use Rattle.compress.specs.Said.{said_if};
 ghost use Rattle.correction.specs.Correction.{stretches_cause, ends_cause, nearest_correction};
 
-use compress::{Checked, Edge, Refusal, Vertex};
+use compress::{Checked, Refusal};
 use nearest::Ends;
+use nearest::sound::SoundTables;
 use rows::lent::Stretch;
-use rows::tables::{Table, Tables};
+use rows::tables::Tables;
 
 fn stretches_cause(edges: usize, first: &Stretch, second: &Stretch) -> Checked
     ensures { cause_of result ≡ stretches_cause edges first.now.uses.now first.now.count second.now.uses.now second.now.count }
@@ -33,24 +34,24 @@ fn ends_cause(tables: &Tables, first: &Stretch, second: &Stretch, v0: u32) -> Ch
     checks::lower(t, checks::lower(v, w))
 }
 
-// `nearest_correction`: the nearest ends of two stretches, seen from vertex v0.
+// `nearest_correction`: the nearest ends of two stretches, seen from vertex v0. Two parameters, as the call has them, here and in `nearest`.
 #[tactic(auto, using(crate::proofs::Accepted::checked), unfolding(crate::specs::Correction::nearest_correction))]
 pub fn nearest_correction(
-    vertices: &Table<Vertex>,
-    edges: &Table<Edge>,
+    tables: &Tables,
     first: &Stretch,
     second: &Stretch,
     v0: u32,
 ) -> Result<Option<Ends>, Refusal>
-    ensures { said_if (λ e. e) result ≡ nearest_correction vertices.now.numbers.now vertices.now.floats.now
-        edges.now.numbers.now edges.now.floats.now
-        first.now.uses.now second.now.uses.now vertices.now.count edges.now.count first.now.count second.now.count v0 }
+    ensures { let v = tables.now.vertices in
+        let e = tables.now.edges in
+        said_if (λ e. e) result ≡ nearest_correction v.numbers.now v.floats.now e.numbers.now e.floats.now
+        first.now.uses.now second.now.uses.now v.count e.count first.now.count second.now.count v0 }
 {
-    let tables = Tables {
-        vertices: *vertices,
-        edges: *edges,
+    ends_cause(tables, first, second, v0)?;
+    let tables = SoundTables {
+        vertices: tables.vertices,
+        edges: tables.edges,
     };
-    ends_cause(&tables, first, second, v0)?;
     let first = &first.uses[..first.count];
     let second = &second.uses[..second.count];
     Ok(nearest::nearest_ends(&tables, first, second, v0))

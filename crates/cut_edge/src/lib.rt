@@ -13,7 +13,7 @@ pub struct Halves {
     pub new: Edge,
 }
 
-// The curve, from t0 to t1.
+// The curve, from t0 to t1. Field by field: `..c` is for structs alone.
 fn with_range(c: Curve, t0: f64, t1: f64) -> Curve
     ensures { result ≡ with_range c t0 t1 }
 {
@@ -37,7 +37,8 @@ pub fn middle(c: Curve) -> f64
     floats::midpoint(t0, t1)
 }
 
-// Both halves of an edge that is cut at t by vertex n: the old one has the part of the curve up to t, the new one that from t on.
+// Both halves of an edge that is cut at t by vertex n: the old one has the part of the curve up to t, the new one that from t on. Two functions, this
+// and `cut_edge`, by a rule of the project: document 01 names the form.
 fn both_halves(e: Edge, t: f64, n: u32) -> Halves
     ensures { result ≡ halves_of e t n }
 {
@@ -57,22 +58,12 @@ fn both_halves(e: Edge, t: f64, n: u32) -> Halves
 }
 
 // `cut_edge`: the lent edge keeps its first half, and the second is handed back.
-fn cut_edge(e: &mut Edge, t: f64, n: u32) -> Edge
+pub fn cut_edge(e: &mut Edge, t: f64, n: u32) -> Edge
     ensures { (e.new ≡ (halves_of e.old t n).old) × (result ≡ (halves_of e.old t n).new) }
 {
     let h = both_halves(*e, t, n);
     *e = h.old;
     h.new
-}
-
-// `cut_edge` for a caller that holds the edge by value. A rule of the project: document 01 names the form of `cut_edge`, over a lent edge and thin
-// above `both_halves`, and each caller cuts by it.
-pub fn cut_held(e: Edge, t: f64, n: u32) -> Halves
-    ensures { result ≡ halves_of e t n }
-{
-    let mut old = e;
-    let new = cut_edge(&mut old, t, n);
-    Halves { old, new }
 }
 
 // The vertex at the middle of an edge that is yet to be cut.

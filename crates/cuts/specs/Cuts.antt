@@ -12,14 +12,14 @@ use Rattle.cuts.specs.declared.Cut.{Cut}
 
 -- a cut is its parameter and its point: four cells of a row
 abbrev pub cut_of : Float → Float → Float → Float → Cut
-cut_of t x y z = record { t = t; x = x; y = y; z = z }
+cut_of t x y z = record { t = t; point = record { x = x; y = y; z = z } }
 
 abbrev pub cut_at : List Float → ℕ → Cut
 cut_at cs i = cut_of (get_or cs (i * 4) nan) (get_or cs (i * 4 + 1) nan) (get_or cs (i * 4 + 2) nan) (get_or cs (i * 4 + 3) nan)
 
 -- 5: "cut .. parameter outside its curve's t0 to t1"; 4 for each of its numbers
 unfoldable pub cut_cause : Float → Float → Cut → ℕ
-cut_cause t0 t1 c = lower_of (parameter_cause t0 t1 c.t) (point_cause c.x c.y c.z)
+cut_cause t0 t1 c = lower_of (parameter_cause t0 t1 c.t) (point_cause c.point.x c.point.y c.point.z)
 
 -- n cuts: "a count .. is above what was lent", and every cut, used or not
 unfoldable pub cuts_cause : Float → Float → List Float → ℕ → ℕ

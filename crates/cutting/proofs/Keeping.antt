@@ -5,11 +5,11 @@ use mathlib.Core.Bool.{Bool, true, false}
 use mathlib.Core.List.{List, [], ◌∷◌, ◌++◌}
 use Prim.Native.Nat.{ℕ, zero, suc, ◌+◌, ◌*◌, ◌/◌, ◌%◌, ◌≤◌, ◌<◌}
 use native.Mathlib.Omega.{arith}
-use borrow.Author.Tests.{eqb-true, eqb-false, eq-eqb, ne_eqb}
-use lib.Dec.{eqb}
+use borrow.Author.Tests.{eq-eqb, ne_eqb}
 use lib.Ieee.{Float}
 use lib.ListN.{length, get_or, take, drop, length-drop}
 use lib.Seq.{get_or-take, get_or-drop, length-take-le}
+use Rattle.std.specs.Prelude.{Option, Some, None}
 use Rattle.compress.specs.declared.Edge.{Edge}
 use Rattle.compress.specs.Records.{forward, front_of, back_of, front_at, back_at}
 use Rattle.compress.specs.Rows.{edge_at}
@@ -18,18 +18,18 @@ use Rattle.compress.specs.Wires.{total, wires_of}
 use Rattle.compress.proofs.Layouts.{length_rows}
 use Rattle.wires.specs.Connected.{replaced}
 use Rattle.wires.proofs.Replaced.{Leads, leads_one, leads_two, replaced_connected, replaced_closed}
-use Rattle.mending.specs.Replace.{replaced_by, replace_use, replace_edges, replace_wires}
+use Rattle.mending.specs.Replace.{replace_use, replace_edges, replace_wires}
 use Rattle.cutting.specs.Keeps.{edge_in, wire_in, UsesKnown, Keeps}
 use Rattle.cutting.specs.Contract.{lent_of, input_cause}
 use Rattle.cutting.proofs.Outcome.{accepted}
 
 -- `replace_edges` is a replacement of each use
-pub edges_replaced : (added w : List ℕ) → replace_edges added w ≡ replaced (λ u. replace_use u (get_or added (u / 2) 0)) w
+pub edges_replaced : (added : List (Option ℕ)) (w : List ℕ) → replace_edges added w ≡ replaced (λ u. replace_use u (get_or added (u / 2) None)) w
 unfolding replace_edges replaced
 edges_replaced added [] = refl
-edges_replaced added (u ∷ us) = ap (λ (l : List ℕ). replace_use u (get_or added (u / 2) 0) ++ l) (edges_replaced added us)
+edges_replaced added (u ∷ us) = ap (λ (l : List ℕ). replace_use u (get_or added (u / 2) None) ++ l) (edges_replaced added us)
 
-pub wire_replaced : (added : List ℕ) (ws : List (List ℕ)) (k : ℕ) → get_or (replace_wires added ws) k [] ≡ replace_edges added (get_or ws k [])
+pub wire_replaced : (added : List (Option ℕ)) (ws : List (List ℕ)) (k : ℕ) → get_or (replace_wires added ws) k [] ≡ replace_edges added (get_or ws k [])
 unfolding replace_wires replace_edges
 wire_replaced added [] k = refl
 wire_replaced added (w ∷ ws) zero = refl
@@ -80,53 +80,51 @@ module _ (es : ℕ → Edge) (m : ℕ) where
   back_second = back_reversed es (m * 2 + 1) odd ∙ rw half_reversed
 
 -- Of n edges, each that the map does not name has its ends as before, and each that it names has its two halves: `es` before, `es'` after.
-pub record Halved (added : List ℕ) (n : ℕ) (es es' : ℕ → Edge) : Type 0 where
-  pub kept : (i : ℕ) → i < n → get_or added i 0 ≡ 0 → ((es' i).front ≡ (es i).front) × ((es' i).back ≡ (es i).back)
-  pub cut : (i : ℕ) → i < n → (get_or added i 0 ≡ 0 → ⊥)
-      → ((es' i).front ≡ (es i).front) × ((es' i).back ≡ (es' (get_or added i 0)).front) × ((es' (get_or added i 0)).back ≡ (es i).back)
+pub record Halved (added : List (Option ℕ)) (n : ℕ) (es es' : ℕ → Edge) : Type 0 where
+  pub kept : (i : ℕ) → i < n → get_or added i None ≡ None → ((es' i).front ≡ (es i).front) × ((es' i).back ≡ (es i).back)
+  pub cut : (i m : ℕ) → i < n → get_or added i None ≡ Some m
+      → ((es' i).front ≡ (es i).front) × ((es' i).back ≡ (es' m).front) × ((es' m).back ≡ (es i).back)
 
-module _ (added : List ℕ) (n : ℕ) (es es' : ℕ → Edge) (H : Halved added n es es') where
+module _ (added : List (Option ℕ)) (n : ℕ) (es es' : ℕ → Edge) (H : Halved added n es es') where
   -- what stands for a use leads from its front to its back
-  use_leads : (u : ℕ) → u / 2 < n → Leads (front_at es') (back_at es') (front_at es u) (replace_use u (get_or added (u / 2) 0)) (back_at es u)
+  use_leads : (u : ℕ) → u / 2 < n → Leads (front_at es') (back_at es') (front_at es u) (replace_use u (get_or added (u / 2) None)) (back_at es u)
   unfolding replace_use
-  use_leads u lt = by (eqb m 0) (forward u) refl refl
+  use_leads u lt = by (get_or added (u / 2) None) (forward u) refl refl
     where
-      m : ℕ
-      m = get_or added (u / 2) 0
-
-      by : (b f : Bool) → eqb m 0 ≡ b → forward u ≡ f → Leads (front_at es') (back_at es') (front_at es u) (replaced_by b f u m) (back_at es u)
-      by true true p q =
-          let h = H.kept (u / 2) lt (eqb-true m 0 p) in
+      by : (o : Option ℕ) (f : Bool) → get_or added (u / 2) None ≡ o → forward u ≡ f
+          → Leads (front_at es') (back_at es') (front_at es u) (replace_use u o) (back_at es u)
+      by None true p q =
+          let h = H.kept (u / 2) lt p in
           let a : front_at es' u ≡ front_at es u = front_forward es' u q ∙ h.0 ∙ sym (front_forward es u q) in
           let z : back_at es' u ≡ back_at es u = back_forward es' u q ∙ h.1 ∙ sym (back_forward es u q) in
           rw (← a, ← z) (leads_one (front_at es') (back_at es') u)
-      by true false p q =
-          let h = H.kept (u / 2) lt (eqb-true m 0 p) in
+      by None false p q =
+          let h = H.kept (u / 2) lt p in
           let a : front_at es' u ≡ front_at es u = front_reversed es' u q ∙ h.1 ∙ sym (front_reversed es u q) in
           let z : back_at es' u ≡ back_at es u = back_reversed es' u q ∙ h.0 ∙ sym (back_reversed es u q) in
           rw (← a, ← z) (leads_one (front_at es') (back_at es') u)
-      by false true p q =
-          let h = H.cut (u / 2) lt (eqb-false m 0 p) in
-          leads_two (front_at es') (back_at es') u (m * 2) (front_at es u) (back_at es u)
+      by (Some m) true p q =
+          let h = H.cut (u / 2) m lt p in
+          rw q (leads_two (front_at es') (back_at es') u (m * 2) (front_at es u) (back_at es u)
           (front_forward es' u q ∙ h.0 ∙ sym (front_forward es u q))
           (back_forward es' u q ∙ h.1 ∙ sym (front_first es' m))
-          (back_first es' m ∙ h.2 ∙ sym (back_forward es u q))
-      by false false p q =
-          let h = H.cut (u / 2) lt (eqb-false m 0 p) in
-          leads_two (front_at es') (back_at es') (m * 2 + 1) u (front_at es u) (back_at es u)
+          (back_first es' m ∙ h.2 ∙ sym (back_forward es u q)))
+      by (Some m) false p q =
+          let h = H.cut (u / 2) m lt p in
+          rw q (leads_two (front_at es') (back_at es') (m * 2 + 1) u (front_at es u) (back_at es u)
           (front_second es' m ∙ h.2 ∙ sym (front_reversed es u q))
           (back_second es' m ∙ sym h.1 ∙ sym (front_reversed es' u q))
-          (back_reversed es' u q ∙ h.0 ∙ sym (back_reversed es u q))
+          (back_reversed es' u q ∙ h.0 ∙ sym (back_reversed es u q)))
 
 -- a shell whose edges are halved and whose wires are mended by the map
-pub keeps : (d : Edge) (s after : Shell) (added : List ℕ) → UsesKnown s → Halved added (length s.edges) (edge_in d s) (edge_in d after)
+pub keeps : (d : Edge) (s after : Shell) (added : List (Option ℕ)) → UsesKnown s → Halved added (length s.edges) (edge_in d s) (edge_in d after)
     → after.wires ≡ replace_wires added s.wires → Keeps d s after
 unfolding UsesKnown
 keeps d s after added known H q =
     let es = edge_in d s in
     let es' = edge_in d after in
     let n = length s.edges in
-    let r : ℕ → List ℕ = λ u. replace_use u (get_or added (u / 2) 0) in
+    let r : ℕ → List ℕ = λ u. replace_use u (get_or added (u / 2) None) in
     let is : (k : ℕ) → wire_in after k ≡ replaced r (wire_in s k)
     = λ k. rw q (wire_replaced added s.wires k ∙ edges_replaced added (wire_in s k)) in
     record {

@@ -10,7 +10,7 @@ use compress::{Checked, Edge, Vertex};
 use rows::lent::Wires;
 use rows::tables::Table;
 
-// Causes 1 to 5, over all that is lent.
+// Causes 1 to 5, over all that is lent. Two tables, here and below, and no `Tables`: callers have them to be written, and would put it together at each call.
 pub fn input_cause(vertices: &Table<Vertex>, edges: &Table<Edge>, wires: &Wires) -> Checked
     ensures { let v = vertices.now in
         let e = edges.now in

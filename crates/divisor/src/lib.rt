@@ -2,48 +2,51 @@
 #![tactic(auto)]
 
 ghost use Rattle.std.specs.Prelude.{◌≡◌, ◌+◌, ◌≤◌, ◌<◌, length};
-ghost use Rattle.nearest.specs.Tables.{AreSound, IsWire};
 ghost use Rattle.rows.specs.Held.{vertices_in, edges_in};
 ghost use Rattle.compress.specs.Said.{said_if};
 ghost use Rattle.loops.specs.Loop.{first_repeat};
 ghost use Rattle.divisor.specs.Divided.{second_pair, turned_divisor};
+ghost use Rattle.divisor.specs.Wires.{IsWire};
+
+pub mod doubled;
 
 use compress::Refusal;
+use doubled::Doubled;
 use loops::Pair;
 use nearest::Ends;
-use rows::tables::Tables;
+use nearest::sound::SoundTables;
 
 // The places i1 and j1: the pair found past j0, or j0 and the length.
 #[tactic(auto, using(crate::proofs::Divisors::second_in), unfolding(crate::specs::Divided::second_pair))]
-fn second_pair(found: Option<Pair>, j0: usize, wire: &[u32]) -> Pair
-    requires j0_in_wire { j0 < length wire.now }
-    requires found_value { found ≡ first_repeat (j0 + 1) wire.now }
-    ensures value { result ≡ second_pair (first_repeat (j0 + 1) wire.now) j0 (length wire.now) }
+fn second_pair(found: Option<Pair>, doubled: &Doubled) -> Pair
+    requires found_value { found ≡ first_repeat (doubled.now.j0 + 1) doubled.now.wire.now }
+    ensures value { let w = doubled.now.wire.now in
+        let j0 = doubled.now.j0 in
+        result ≡ second_pair (first_repeat (j0 + 1) w) j0 (length w) }
     ensures in_order { result.earlier < result.later }
-    ensures inside { result.later ≤ length wire.now }
+    ensures inside { result.later ≤ length doubled.now.wire.now }
 {
     let lacking = Pair {
-        earlier: j0,
-        later: wire.len(),
+        earlier: doubled.j0,
+        later: doubled.wire.len(),
     };
     found.unwrap_or(lacking)
 }
 
-// `non_simple_wire_divisor`, for a wire that is turned so that the earlier place is 0 and the later one j0. `found` was found past j0.
+// `non_simple_wire_divisor`, for a wire that is turned. `found` was found past j0.
 #[tactic(auto, using(nearest::proofs::Fronts::front_below), unfolding(crate::specs::Divided::turned_divisor, crate::specs::Divided::divided_by))]
 pub fn divide(
-    tables: &Tables,
-    wire: &[u32],
-    j0: usize,
+    tables: &SoundTables,
+    doubled: &Doubled,
     found: Option<Pair>,
 ) -> Result<Option<Ends>, Refusal>
-    requires sound { AreSound tables.now }
-    requires j0_in_wire { (0 < j0) × (j0 < length wire.now) }
-    requires wire_sound { IsWire tables.now.edges.count wire.now }
-    requires found_value { found ≡ first_repeat (j0 + 1) wire.now }
-    ensures { said_if (λ e. e) result ≡ turned_divisor (edges_in tables.now.edges) (vertices_in tables.now.vertices) wire.now j0 }
+    requires wire_sound { IsWire tables.now.edges.count doubled.now.wire.now }
+    requires found_value { found ≡ first_repeat (doubled.now.j0 + 1) doubled.now.wire.now }
+    ensures { said_if (λ e. e) result ≡ turned_divisor (edges_in tables.now.edges) (vertices_in tables.now.vertices)
+        doubled.now.wire.now doubled.now.j0 }
 {
-    let second = second_pair(found, j0, wire);
+    let second = second_pair(found, doubled);
+    let Doubled { wire, j0, .. } = *doubled;
     let k0 = j0.div_ceil(2);
     let k1 = (second.earlier + second.later).div_ceil(2);
     if k1 >= wire.len() {

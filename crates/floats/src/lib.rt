@@ -4,6 +4,8 @@
 ghost use Rattle.std.specs.Prelude.{◌≡◌};
 ghost use Rattle.floats.specs.Exact.{sized_of, Midpoint, distance2_uv, distance2_xyz};
 
+use compress::{Uv, Xyz};
+
 // Is x at most 1.0e15 in size? No for a NaN.
 pub fn is_sized(x: f64) -> bool
     ensures { result ≡ sized_of x }
@@ -20,22 +22,22 @@ pub fn midpoint(t0: f64, t1: f64) -> f64
     (t0 + t1) / 2.0
 }
 
-// The squared distance of the points (u0, v0) and (u1, v1).
-pub fn distance2_uv(u0: f64, v0: f64, u1: f64, v1: f64) -> f64
-    ensures { result ≡ distance2_uv u0 v0 u1 v1 }
+// The squared distance of two points of a parameter plane. A function here and one for points in space: a trait
+// over both points would reach through three crates (to read them, their causes, their tests), and nothing generic calls it.
+pub fn distance2_uv(a: Uv, b: Uv) -> f64
+    ensures { result ≡ distance2_uv a.u a.v b.u b.v }
 {
-    let du = u1 - u0;
-    let dv = v1 - v0;
+    let du = b.u - a.u;
+    let dv = b.v - a.v;
     du * du + dv * dv
 }
 
-// The squared distance of the points (x0, y0, z0) and (x1, y1, z1), added in the order x, y, z. Six floats and no two points: a struct
-// of three floats for this one function is no plainer.
-pub fn distance2_xyz(x0: f64, y0: f64, z0: f64, x1: f64, y1: f64, z1: f64) -> f64
-    ensures { result ≡ distance2_xyz x0 y0 z0 x1 y1 z1 }
+// The squared distance of two points in space, added in the order x, y, z.
+pub fn distance2_xyz(a: Xyz, b: Xyz) -> f64
+    ensures { result ≡ distance2_xyz a.x a.y a.z b.x b.y b.z }
 {
-    let dx = x1 - x0;
-    let dy = y1 - y0;
-    let dz = z1 - z0;
+    let dx = b.x - a.x;
+    let dy = b.y - a.y;
+    let dz = b.z - a.z;
     dx * dx + dy * dy + dz * dz
 }

@@ -1,5 +1,5 @@
 // The calls for hosts in C and Rust: numbers and slices, and an i32 for the answer. Here the closed-edge pass; the modules have the others.
-// In C each slice and each count is a parameter of its own: here they become tables and wires.
+// In C each slice, each count, each float of a point and each place for a result is a parameter of its own: here they become tables, wires and points.
 #![tactic(auto)]
 
 mod codes;

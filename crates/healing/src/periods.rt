@@ -53,10 +53,5 @@ pub extern "C" fn kaugrenna_nearest_copy(
         kind: v_kind,
         number: v_period,
     };
-    let answer = host_numbers::copy_asked(p, q, u, v);
-    if let Ok(c) = answer {
-        *u_out = c.u;
-        *v_out = c.v;
-    }
-    codes::code_of(answer)
+    codes::tell_uv(host_numbers::copy_asked(p, q, u, v), u_out, v_out)
 }

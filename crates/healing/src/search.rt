@@ -5,7 +5,7 @@ ghost use Rattle.healing.specs.Host.{Told};
 
 use crate::codes;
 use rows::lent::{Stretch, Wires};
-use rows::tables::Table;
+use rows::tables::{Table, Tables};
 
 // From v0 the nearest front of the second stretch, from there the nearest front of the first. 0: done, and the two places hold a vertex of the
 // first stretch and one of the second. -1: a stretch is empty. Else the number of the refusal. After -1 and a refusal nothing lent is changed.
@@ -29,8 +29,10 @@ pub extern "C" fn kaugrenna_nearest_correction(
         first.now second.now vertices edges first_count second_count v0)
         (record { v0 = v0_out.old; v1 = v1_out.old }) (record { v0 = v0_out.new; v1 = v1_out.new }) result }
 {
-    let vertices = Table::new(vertex_numbers, vertex_floats, vertices);
-    let edges = Table::new(edge_numbers, edge_floats, edges);
+    let tables = Tables {
+        vertices: Table::new(vertex_numbers, vertex_floats, vertices),
+        edges: Table::new(edge_numbers, edge_floats, edges),
+    };
     let first = Stretch {
         uses: first,
         count: first_count,
@@ -39,7 +41,7 @@ pub extern "C" fn kaugrenna_nearest_correction(
         uses: second,
         count: second_count,
     };
-    let answer = correction::nearest_correction(&vertices, &edges, &first, &second, v0);
+    let answer = correction::nearest_correction(&tables, &first, &second, v0);
     codes::tell_ends(answer, v0_out, v1_out)
 }
 
@@ -63,13 +65,15 @@ pub extern "C" fn kaugrenna_find_non_simple_wire_divisor(
         uses.now lengths.now vertices edges wires)
         (record { v0 = v0_out.old; v1 = v1_out.old }) (record { v0 = v0_out.new; v1 = v1_out.new }) result }
 {
-    let vertices = Table::new(vertex_numbers, vertex_floats, vertices);
-    let edges = Table::new(edge_numbers, edge_floats, edges);
+    let tables = Tables {
+        vertices: Table::new(vertex_numbers, vertex_floats, vertices),
+        edges: Table::new(edge_numbers, edge_floats, edges),
+    };
     let wires = Wires {
         uses,
         lengths,
         count: wires,
     };
-    let answer = non_simple::find_non_simple_wire_divisor(&vertices, &edges, &wires);
+    let answer = non_simple::find_non_simple_wire_divisor(&tables, &wires);
     codes::tell_ends(answer, v0_out, v1_out)
 }

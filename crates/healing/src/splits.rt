@@ -59,10 +59,5 @@ pub extern "C" fn kaugrenna_split_boundaries_by_divisor(
     let answer = split::split_boundaries_by_divisor(
         vertices, &mut table, &face, &rebuilt, &divisor, uses, lengths, surface,
     );
-    if let Ok(made) = answer {
-        *wires_out = made.wires;
-        *uses_out = made.uses;
-        *edges_out = made.edges;
-    }
-    codes::code_of(answer)
+    codes::tell_boundaries(answer, wires_out, uses_out, edges_out)
 }

@@ -1,8 +1,7 @@
-// What a host lends or is told as a number: the kind of a period, and a refusal.
+// What a host lends as a number: the kind of a period.
 #![tactic(auto)]
 
-ghost use Rattle.std.specs.Prelude.{◌≡◌, pos};
-ghost use Rattle.compress.specs.Refusals.{refusal_number};
+ghost use Rattle.std.specs.Prelude.{◌≡◌};
 ghost use Rattle.compress.specs.Said.{said_of};
 ghost use Rattle.host_numbers.specs.Numbers.{period_said, host_mindiff, host_copy};
 
@@ -16,7 +15,7 @@ pub struct LentPeriod {
 }
 
 impl LentPeriod {
-    // The period, where its kind is known. The number of an absent one is no input.
+    // The period, where its kind is known. The number of an absent one is no input. No TryFrom for Option<f64>: each call would name that type.
     pub fn known(self) -> Result<Option<f64>, Refusal>
         ensures { said_of (λ p. p) result ≡ period_said self.kind self.number }
     {
@@ -42,11 +41,4 @@ pub fn copy_asked(p: Uv, q: Uv, u: LentPeriod, v: LentPeriod) -> Result<Uv, Refu
     let up = u.known()?;
     let vp = v.known()?;
     periodic::nearest_copy(p, q, up, vp)
-}
-
-// The number of a refusal, as a host is told it. A function and no `From`: that one could stand only beside the refusal, in `compress`.
-pub fn refusal_code(r: Refusal) -> i32
-    ensures { result ≡ pos (refusal_number r) }
-{
-    r as i32
 }

@@ -67,13 +67,11 @@ module _ {edges : Table Edge} {first second : List ℕ} {wires : WiresMut} (J : 
       part_within = wire_within us ls wires.count w J.lies wire_found from is
 
       -- what laying asks of it
-      pub laying_asks : (a b : TurnedWire) → a.wire.now ≡ first → b.wire.now ≡ second → a.by ≤ length first → b.by ≤ length second
+      pub laying_asks : (a b : TurnedWire) → a.wire.now ≡ first → b.wire.now ≡ second
           → Layable edges.numbers.now edges.floats.now a b part
-      laying_asks a b ea eb ha hb =
+      laying_asks a b ea eb =
           let l = part_size us from (from + get_or ls w 0) (omega (arith, part_within, J.lies.uses)) in
           record {
-            first_by = rw ea ha;
-            second_by = rw eb hb;
             few = rw (ea, eb) (omega (arith, l, part_within, J.few));
             first_rows = rw ea J.first_rows;
             wire_rows = part_rows edges.numbers.now edges.floats.now us _ from (from + get_or ls w 0) part_within J.lies.uses J.rows;

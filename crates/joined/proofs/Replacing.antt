@@ -1,6 +1,6 @@
 -- One of several wires replaced, as it is written: what stands before it, the new wire, and what stood behind it.
 -- Assumes nothing.
-use mathlib.Core.Path.{◌≡◌, refl, sym, ◌∙◌}
+use mathlib.Core.Path.{◌≡◌, refl, ap, sym, ◌∙◌}
 use mathlib.Core.Bool.{true, false}
 use mathlib.Core.List.{List, [], ◌∷◌, ◌++◌, append_assoc}
 use Prim.Native.Nat.{ℕ, zero, suc, ◌+◌, ◌-◌, ◌≤◌, ◌<◌}
@@ -11,20 +11,13 @@ use lib.Seq.{take-add, drop-drop, take-take, length-take-le, take-set-lt, drop-s
 use Rattle.compress.specs.declared.Refusal.TheVariants.{NoRoom}
 use Rattle.compress.specs.Shell.{uses_fit}
 use Rattle.compress.specs.Wires.{total, wires_of, uses_of, lengths_of, over}
-use Rattle.compress.proofs.Wires.{wire_in, uses_all}
+use Rattle.compress.proofs.Wires.{wire_in, uses_all, total_both}
 use Rattle.std.specs.Prelude.{Ok, Err}
 use Rattle.joined.specs.Outcome.{leaves_stored, stored_in}
 use Rattle.joined.specs.Steps.{replaced_in}
 use Rattle.laying.specs.Steps.{Lying}
 
 -- ---- wires of the lengths L
-total_split : (L : List ℕ) (w : ℕ) → total (take w L) + total (drop w L) ≡ total L
-unfolding total
-total_split [] zero = refl
-total_split [] (suc w) = refl
-total_split (m ∷ L) zero = omega arith
-total_split (m ∷ L) (suc w) = omega (arith, total_split L w)
-
 lengths_all : (us L : List ℕ) → total L ≤ length us → lengths_of (wires_of us L) ≡ L
 unfolding wires_of lengths_of total
 lengths_all us [] h = refl
@@ -67,7 +60,8 @@ module _ (us ls : List ℕ) (n w : ℕ) (L : Lying us ls n) (lt : w < n) where
   -- it lies in the uses
   pub wire_lies : total (take w ls) + get_or ls w 0 + total (drop (w + 1) (take n ls)) ≡ total (take n ls)
   wire_lies =
-      let s : total (take w ls) + total (drop w (take n ls)) ≡ total (take n ls) = rw same_before at (total_split (take n ls) w) in
+      let s : total (take w ls) + total (drop w (take n ls)) ≡ total (take n ls)
+      = sym (total_both (take w ls) (drop w (take n ls))) ∙ ap total (rw same_before at (take-append-drop w (take n ls))) in
       wire_in us ls n w (total (take w ls)) L.lengths lt s
 
   -- it is what is lent on, from place `from`

@@ -1,13 +1,13 @@
 -- Parts laid one behind the other into a buffer, and the joined wire that they make.
 -- Assumes nothing.
 use mathlib.Core.Path.{◌≡◌, sym, ◌∙◌}
-use mathlib.Core.List.{List, [], ◌++◌, append_assoc, append-nil}
+use mathlib.Core.List.{List, ◌++◌, append_assoc}
 use Prim.Native.Nat.{ℕ, ◌+◌, ◌-◌, ◌*◌, ◌/◌, ◌%◌, ◌≤◌, ◌<◌}
 use native.Mathlib.Omega.{arith}
 use native.Mathlib.Decide.{dec_lt}
 use native.Mathlib.Nat.{mod-lt}
-use lib.ListN.{length, get_or, take, drop, length-append, length-drop, drop_of_length-le, get_or-append}
-use lib.Seq.{take_all, drop-drop, take_at, drop_at, drop-append-add, get_or-append-add, length-take-le}
+use lib.ListN.{length, get_or, take, drop, length-append, get_or-append}
+use lib.Seq.{drop-drop, take_at, drop_at, drop-append-add, get_or-append-add, length-take-le}
 use lib.Ieee.{Float}
 use Rattle.compress.specs.declared.Edge.{Edge}
 use Rattle.compress.specs.Rows.{edge_at}
@@ -17,14 +17,6 @@ use Rattle.wires.proofs.Turns.{length_turned, get_or_turned}
 use Rattle.laying.specs.Places.{index_of, place_in, closed_by}
 use Rattle.laying.specs.Steps.{Readable}
 use Rattle.laying.proofs.Places.{index_le}
-
--- a part from `at` on was lent, and came back with p written over its front
-pub laid_at : (out ys p : List ℕ) (at : ℕ) → at + length p ≤ length out → ys ≡ p ++ drop (length p) (take (length out - at) (drop at out))
-    → take at out ++ (ys ++ drop (length out - at) (drop at out)) ≡ take at out ++ (p ++ drop (at + length p) out)
-laid_at out ys p at h e =
-    let l : length (drop at out) ≡ length out - at = length-drop at out in
-    let none_left : drop (length out - at) (drop at out) ≡ [] = drop_of_length-le (drop at out) {i = length out - at} (omega arith) in
-    rw (e, none_left, append-nil, take_all (length out - at) (drop at out) (omega arith), drop-drop (length p) at out)
 
 -- p is laid into the front, and q behind it
 laid_two : (p q r₁ r₂ out₁ out₂ : List ℕ) (n m : ℕ) → length p ≡ n → length q ≡ m → out₁ ≡ p ++ r₁ → out₂ ≡ take n out₁ ++ (q ++ r₂)

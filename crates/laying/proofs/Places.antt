@@ -1,7 +1,7 @@
 -- What the searches of `find_index` and `find_wire` answer: the first place, or none.
 -- Assumes nothing.
-use mathlib.Core.Path.{◌≡◌, refl, ap, sym}
-use mathlib.Core.Bool.{Bool, true, false}
+use mathlib.Core.Path.{◌≡◌, refl, ap}
+use mathlib.Core.Bool.{Bool, true, false, true≢false, false≢true}
 use mathlib.Core.List.{List, [], ◌∷◌}
 use Prim.Native.Nat.{ℕ, zero, suc, ◌+◌, ◌-◌, ◌*◌, ◌/◌, ◌≤◌, ◌<◌}
 use native.Mathlib.Omega.{arith}
@@ -74,9 +74,6 @@ module _ (es : ℕ → Edge) (v : ℕ) (w : List ℕ) where
       rw (r, lt-ltb i (length w) h.0)
 
 -- ---- what a search found
-differ : {A : Type 0} → false ≡ true → A
-differ p = let z : ◌≡◌ {A = ℕ} 0 1 = cc in absurd (omega arith)
-
 -- 1 above the place, and 0 where there is none
 abbrev place_above : Said ℕ → ℕ
 place_above (result i) = i + 1
@@ -112,11 +109,11 @@ Lacks es v w = length w ≤ index_of es v w
 
 -- what a search of one wire tells
 pub told_holds : (es : ℕ → Edge) (v : ℕ) (w : List ℕ) (r : Option ℕ) → found r ≡ place_in es v w → is_some r ≡ true → Holds es v w
-told_holds es v w None q h = differ h
+told_holds es v w None q h = absurd (false≢true h)
 told_holds es v w (Some x) q h = (found_is (length w) (index_of es v w) q).1
 
 pub told_lacks : (es : ℕ → Edge) (v : ℕ) (w : List ℕ) (r : Option ℕ) → found r ≡ place_in es v w → is_some r ≡ false → Lacks es v w
-told_lacks es v w (Some x) q h = differ (sym h)
+told_lacks es v w (Some x) q h = absurd (true≢false h)
 told_lacks es v w None q h = found_not (length w) (index_of es v w) q
 
 -- a wire ahead of others is the first that holds v, or one place more is counted

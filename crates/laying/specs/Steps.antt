@@ -17,8 +17,6 @@ pub record Lying (us ls : List ℕ) (n : ℕ) : Type 0 where
 
 -- two open wires and a new one, of which the joined wire is laid
 pub record Layable (en : List ℕ) (ef : List Float) (first second : TurnedWire) (wire : List ℕ) : Type 0 where
-  pub first_by : first.by ≤ length first.wire.now
-  pub second_by : second.by ≤ length second.wire.now
   pub few : length first.wire.now + length wire + length second.wire.now ≤ 1024
   pub first_rows : Readable en ef first.wire.now
   pub wire_rows : Readable en ef wire

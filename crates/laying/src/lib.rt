@@ -62,7 +62,7 @@ fn lay_first(edges: &Table<Edge>, first: &TurnedWire, wire: &[u32], v0: u32, out
     ensures { let k = index_of (edges_in edges.now) v0 wire.now in
         take (length first.now.wire.now + length wire.now) out.new ≡ turned first.now.by first.now.wire.now ++ turned k wire.now }
 {
-    // A wire that does not have v0 stays as it is; the join looks for one that does.
+    // A wire that does not have v0 stays as it is, by its length, as the definition `index_of` has it; the join looks for one that does.
     let by = find_index(edges, wire, v0).unwrap_or(wire.len());
     lay_turned(first, out, 0);
     lay_turned(&TurnedWire { wire, by }, out, first.wire.len());
@@ -96,11 +96,10 @@ fn lay_through(
     first: &TurnedWire,
     second: &TurnedWire,
     wire: &[u32],
-    out: &mut [u32],
+    out: &mut [u32; 1024],
     open: &mut [u32],
 ) -> Option<usize>
     requires layable { Layable joint.now.edges.numbers.now joint.now.edges.floats.now first.now second.now wire.now }
-    requires out_size { length out.old ≡ 1024 }
     requires room { (length first.now.wire.now + length wire.now ≤ length «open».old) × (length «open».old ≤ 1024) }
     ensures out_after { let j = joint.now in
         laid result out.new ≡ joined_from (edges_in j.edges) j.v0 j.v1 first.now second.now wire.now }
@@ -118,10 +117,9 @@ pub fn lay_joined(
     first: &TurnedWire,
     second: &TurnedWire,
     wire: &[u32],
-    out: &mut [u32],
+    out: &mut [u32; 1024],
 ) -> Option<usize>
     requires layable { Layable joint.now.edges.numbers.now joint.now.edges.floats.now first.now second.now wire.now }
-    requires out_size { length out.old ≡ 1024 }
     ensures out_after { let j = joint.now in
         laid result out.new ≡ joined_from (edges_in j.edges) j.v0 j.v1 first.now second.now wire.now }
     ensures size { laid_size result ≤ 1024 }

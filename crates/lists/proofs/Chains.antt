@@ -7,7 +7,7 @@ use mathlib.Core.Path.{◌≡◌, refl, sym, ap, subst, ◌∙◌}
 use mathlib.Core.Logic.{◌≢◌}
 use mathlib.Core.Bool.{Bool}
 use mathlib.Core.List.{List, [], ◌∷◌, ◌++◌, append-nil}
-use lib.ListN.{length, take, drop, get_or, set, length-append, length-set}
+use lib.ListN.{length, take, drop, get_or, set, length-append, length-set, drop_of_length-le}
 use lib.Seq.{take-suc, take_all, take_at, get_or_at, get_or-set_same, get_or-set_other}
 use borrow.Author.Tests.{ne_eqb}
 use Rattle.std.proofs.Common.{⊎_elim}
@@ -81,16 +81,10 @@ last_is m u =
 pub without_last : (m : List ℕ) (u : ℕ) → without (m ++ (u ∷ [])) (length (m ++ (u ∷ [])) - 1) ≡ m
 without_last m u =
     let e : length (m ++ (u ∷ [])) - 1 ≡ length m = omega (arith, length-append m (u ∷ [])) in
-    let d : drop (suc (length m)) (m ++ (u ∷ [])) ≡ [] = drop_all (m ++ (u ∷ [])) (suc (length m)) (omega (arith, length-append m (u ∷ []))) in
+    let d : drop (suc (length m)) (m ++ (u ∷ [])) ≡ [] = drop_of_length-le (m ++ (u ∷ [])) {i = suc (length m)} (omega (arith, length-append m (u ∷ []))) in
     ap (λ (k : ℕ). without (m ++ (u ∷ [])) k) e
     ∙ ap (λ (l : List ℕ). l ++ drop (suc (length m)) (m ++ (u ∷ []))) (take_at m (u ∷ []) (length m) refl)
     ∙ ap (λ (l : List ℕ). m ++ l) d ∙ append-nil m
-  where
-    drop_all : (l : List ℕ) (k : ℕ) → length l ≤ k → drop k l ≡ []
-    drop_all [] zero h = refl
-    drop_all [] (suc k) h = refl
-    drop_all (x ∷ l) zero h = absurd (omega arith)
-    drop_all (x ∷ l) (suc k) h = drop_all l k (omega arith)
 
 module _ (front : ℕ → ℕ) (us : List ℕ) where
   -- ---- filling

@@ -1,5 +1,5 @@
 -- The search of document 01's "Non-simple wire" for an edge number that stands twice in a wire: the Rust's `find_loop`. Definitions only.
-use Rattle.std.specs.Prelude.{List, [], ◌∷◌, ℕ, zero, suc, ◌+◌, Option, Some, None, eqb, get_or, set, drop}
+use Rattle.std.specs.Prelude.{List, [], ◌∷◌, ℕ, ◌+◌, Option, Some, None, eqb, get_or, set, drop}
 use Rattle.compress.specs.Records.{pick, edge_of_use}
 use Rattle.loops.specs.declared.Pair.{Pair}
 
@@ -29,26 +29,25 @@ searched map i (u ∷ us) = meet (map (edge_of_use u)) i (searched (insert map (
 unfoldable pub first_repeat : ℕ → List ℕ → Option Pair
 first_repeat from wire = searched nothing from (drop from wire)
 
--- ---- the table that is lent: entry e is for the latest place of edge e, plus 1, and 0 where it stood nowhere
+-- ---- the table that is lent: entry e is for the latest place of edge e
 
--- the place that an entry holds
-abbrev pub place_of : ℕ → Option ℕ
-place_of zero = None
-place_of (suc j) = Some j
-
--- "with nothing remembered": the entries of the edges of these uses are 0
-unfoldable pub forgotten : List ℕ → List ℕ → List ℕ
+-- "with nothing remembered": the entries of the edges of these uses are empty
+unfoldable pub forgotten : List ℕ → List (Option ℕ) → List (Option ℕ)
 forgotten [] table = table
-forgotten (u ∷ us) table = forgotten us (set table (edge_of_use u) 0)
+forgotten (u ∷ us) table = forgotten us (set table (edge_of_use u) None)
+
+-- the table once the edge number of a use met what its entry held: where it held nothing, the search went on
+abbrev pub kept : Option ℕ → List (Option ℕ) → List (Option ℕ) → List (Option ℕ)
+kept None later here = later
+kept (Some j) later here = here
 
 -- the table once the uses from place i on were searched, up to the first whose edge number stood before
-unfoldable pub remembered : ℕ → List ℕ → List ℕ → List ℕ
+unfoldable pub remembered : ℕ → List ℕ → List (Option ℕ) → List (Option ℕ)
 remembered i [] table = table
 remembered i (u ∷ us) table =
-    pick (eqb (get_or table (edge_of_use u) 0) 0)
-    (remembered (i + 1) us (set table (edge_of_use u) (i + 1)))
-    (set table (edge_of_use u) (i + 1))
+    let here = set table (edge_of_use u) (Some i) in
+    kept (get_or table (edge_of_use u) None) (remembered (i + 1) us here) here
 
 -- what the search leaves of it
-unfoldable pub table_after : ℕ → List ℕ → List ℕ → List ℕ
+unfoldable pub table_after : ℕ → List ℕ → List (Option ℕ) → List (Option ℕ)
 table_after from wire table = remembered from (drop from wire) (forgotten (drop from wire) table)

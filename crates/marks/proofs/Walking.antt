@@ -2,14 +2,16 @@
 -- Assumes nothing.
 use mathlib.Core.Path.{◌≡◌, refl, ap, sym, ◌∙◌}
 use mathlib.Core.Bool.{Bool, true, false, ◌||◌}
-use mathlib.Core.List.{List, [], ◌∷◌, ◌++◌}
+use mathlib.Core.List.{List, [], ◌∷◌, ◌++◌, append_assoc}
 use Prim.Native.Nat.{ℕ, suc, ◌+◌, ◌-◌, ◌*◌, ◌/◌, ◌≤◌, ◌<◌}
 use native.Mathlib.Omega.{arith}
 use native.Mathlib.Decide.{dec_lt}
 use borrow.Author.Tests.{ltb-true, ltb-false, leb-true, leb-false, ne_eqb, lt-ltb, le-ltb}
 use lib.Dec.{eqb, leb, ltb}
 use lib.ListN.{length, get_or, take, drop, replicate, length-append, length-drop, length-replicate, get_or-append, get_or-eq_default}
-use lib.Seq.{sets, take_at, get_or-append-add}
+use lib.Seq.{sets, take_at, get_or-append-add, length-take-le}
+use Rattle.std.proofs.lemmas.List.{drop-drop}
+use Rattle.std.proofs.lemmas.List.Edits.{sets-eq}
 use Rattle.compress.specs.Records.{pick}
 use Rattle.compress.proofs.Cells.{take_sets}
 use Rattle.lists.specs.Ends.{end_in, end_of, front_of, back_of, marked_of, Sound}
@@ -111,6 +113,19 @@ module _ (en : List ℕ) (edges : ℕ) (face rebuilt ds : List ℕ) (pairs : ℕ
       → o ≡ walk_outcome (walk (front_of en ds edges) (back_of en ds edges) (marked_of ms) us) os ls → o ≡ walk_outcome (lent_walk en edges face rebuilt ds pairs) os ls
   unfolding lent_walk
   walked ms us os ls o q m T = rw (q, m) at T
+
+-- The new uses, written behind those to be rebuilt, up to place e, in a table of 1024 zeros.
+pub signed_up : (rebuilt us₁ out : List ℕ) (e m k : ℕ) → us₁ ≡ rebuilt ++ drop (length rebuilt) (replicate {A = ℕ} 1024 0) → length rebuilt + k * 2 ≤ 1024
+    → e ≡ length rebuilt + k * 2 → ((j : ℕ) → length (take (e - length rebuilt) (drop (length rebuilt) us₁)) ≡ j * 2 → out ≡ new_uses m j)
+    → take (length rebuilt) us₁ ++ (out ++ drop (e - length rebuilt) (drop (length rebuilt) us₁)) ≡ sets us₁ (length rebuilt) (new_uses m k)
+signed_up rebuilt us₁ out e m k e₁ few q is =
+    let n = length rebuilt in
+    let w : e - n ≡ k * 2 = omega arith in
+    let all : length us₁ ≡ 1024
+    = omega (arith, ap length e₁, length-append rebuilt (drop n (replicate {A = ℕ} 1024 0)), length-drop n (replicate {A = ℕ} 1024 0), length-replicate {A = ℕ} 1024 0) in
+    let long : length (take (e - n) (drop n us₁)) ≡ k * 2 = rw w (length-take-le (k * 2) (drop n us₁) (omega (arith, all, length-drop n us₁))) in
+    let long' = length_new_uses m k in
+    rw (is k long, w, sets-eq (new_uses m k) us₁ n (omega (arith, all, long')), long', append_assoc, drop-drop)
 
 -- The same as the code has it: the uses are laid in a table of 1024 zeros.
 module _ {en face rebuilt ds : List ℕ} {edges pairs : ℕ} (W : Walkable en edges face rebuilt ds pairs) {us₁ us₂ : List ℕ}

@@ -37,13 +37,12 @@ fn mark_new(marks: &mut [u32], m: usize, n: usize)
     marks[m..m + n].fill(2);
 }
 
-// `signup_new_edges`: each of the n new edges from number m on, forward and reversed, is written from place `at` on.
-// Their uses are the numbers from 2 m on.
-fn signup_new_edges(out: &mut [u32], at: usize, m: usize, n: usize)
-    requires { (at + n * 2 ≤ length out.old) × (m + n ≤ 4096) }
-    ensures { out.new ≡ sets out.old at (new_uses m n) }
+// `signup_new_edges`: each new edge from number m on, forward and reversed. Their uses are the numbers from 2 m on.
+fn signup_new_edges(out: &mut [u32], m: usize)
+    requires { m * 2 + length out.old ≤ 8192 }
+    ensures { (n : ℕ) → length out.old ≡ n * 2 → out.new ≡ new_uses m n }
 {
-    for (i, u) in out[at..at + n * 2].iter_mut().enumerate() {
+    for (i, u) in out.iter_mut().enumerate() {
         *u = (m * 2 + i) as u32;
     }
 }
@@ -75,7 +74,7 @@ fn walk_within<const N: usize>(
     duplicated_edges(face, &mut marks);
     mark_new(&mut marks, count, pairs);
     to_walk[..n].copy_from_slice(rebuilt);
-    signup_new_edges(&mut to_walk, n, count, pairs);
+    signup_new_edges(&mut to_walk[n..m], count);
     walk::walk_wires(edges, &marks, &to_walk[..m], uses, lengths)
 }
 

@@ -2,24 +2,26 @@
 -- Assumes nothing.
 use mathlib.Core.Path.{◌≡◌, refl, ap, sym, ◌∙◌}
 use mathlib.Core.Bool.{Bool, true, false, ◌&&◌}
-use mathlib.Core.List.{List, [], ◌∷◌, ◌++◌}
-use Prim.Native.Nat.{ℕ, suc, ◌*◌, ◌≤◌, ◌<◌}
+use mathlib.Core.List.{List, ◌++◌}
+use Prim.Native.Nat.{ℕ, ◌*◌, ◌≤◌}
 use native.Mathlib.Omega.{arith}
 use native.Mathlib.Decide.{dec_le}
-use lib.ListN.{length, get_or, take, drop}
+use lib.ListN.{length, take, drop}
 use lib.Seq.{length-take-le, take_all}
-use Rattle.std.specs.Prelude.{Ok, Err}
+use Rattle.std.specs.Prelude.{Option, Ok, Err}
 use Rattle.compress.specs.Shell.{uses_fit}
 use Rattle.compress.specs.Wires.{total, wires_of, uses_of, lengths_of}
-use Rattle.compress.proofs.Room.{both, uses_room}
+use Rattle.std.proofs.lemmas.Bool.{and_parts}
+use Rattle.compress.proofs.Room.{uses_room}
+use Rattle.compress.proofs.Wires.{length_lengths}
 use Rattle.checks.specs.Causes.{wires_cause}
 use Rattle.checks.proofs.Accepted.{wires_accepted}
 use Rattle.mending.specs.Replace.{replace_wires}
-use Rattle.mending.specs.Steps.{Replaceable, Mended, InPlace}
+use Rattle.mending.specs.Steps.{AreNumbers, Replaceable, Mended, InPlace}
 use Rattle.mending.proofs.Wiring.{length_replaced}
 
 -- a buffer of two places for each use, and one of 64 lengths, serve
-pub replaceable : (us ls : List ℕ) (wires : ℕ) (added out ol : List ℕ) → wires_cause (length added) us ls wires ≡ 0 → ((k : ℕ) → get_or added k 0 < 2147483648)
+pub replaceable : (us ls : List ℕ) (wires : ℕ) (added : List (Option ℕ)) (out ol : List ℕ) → wires_cause (length added) us ls wires ≡ 0 → AreNumbers added
     → total (take wires ls) * 2 ≤ length out → 64 ≤ length ol → Replaceable us ls wires added out ol
 replaceable us ls wires added out ol z small ho hl =
     let W = wires_accepted (length added) us ls wires z in
@@ -41,12 +43,7 @@ mended_within ws n out ol M = by (dec_le n (length out))
     by (yes h) = h
     by (no h) = omega (arith, h, M.count, ap length (sym (take_all n out (omega (arith, h))) ∙ M.uses))
 
-length_lengths : (ws : List (List ℕ)) → length (lengths_of ws) ≡ length ws
-unfolding lengths_of
-length_lengths [] = refl
-length_lengths (w ∷ ws) = ap suc (length_lengths ws)
-
-module _ (us ls : List ℕ) (wires : ℕ) (added : List ℕ) (le : wires ≤ length ls) (n : ℕ) (out ol : List ℕ) where
+module _ (us ls : List ℕ) (wires : ℕ) (added : List (Option ℕ)) (le : wires ≤ length ls) (n : ℕ) (out ol : List ℕ) where
   abbrev ws : List (List ℕ)
   ws = replace_wires added (wires_of us (take wires ls))
 
@@ -73,4 +70,4 @@ module _ (us ls : List ℕ) (wires : ℕ) (added : List ℕ) (le : wires ≤ len
     left t = record { count = M.count; fits = rw (← count_is) (sym t); uses = refl; lengths = refl }
 
     pub fits_in : (room && fit) ≡ true → n ≤ length us
-    fits_in t = (uses_room us n (sym q ∙ (both room fit t).1)).1
+    fits_in t = (uses_room us n (sym q ∙ (and_parts room fit t).1)).1

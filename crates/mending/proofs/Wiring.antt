@@ -5,44 +5,32 @@ use mathlib.Core.List.{List, [], ◌∷◌, ◌++◌, append_assoc, append-nil}
 use Prim.Native.Nat.{ℕ, suc, ◌+◌, ◌-◌, ◌*◌, ◌/◌, ◌≤◌, ◌<◌}
 use native.Mathlib.Numerals.{add-one}
 use native.Mathlib.Omega.{arith}
-use lib.ListN.{length, get_or, set, take, drop, length-set, length-append, length-drop}
-use lib.Seq.{append_snoc, take-suc-set, take-append-le, take-append-add, length-take-le}
+use lib.ListN.{length, get_or, set, take, drop, length-set, length-append}
+use lib.Seq.{append_snoc, take-suc-set, length-take-le}
+use Rattle.std.specs.Prelude.{Option}
 use Rattle.compress.specs.Wires.{total, wires_of, uses_of, lengths_of}
-use Rattle.compress.proofs.Wires.{length_wires, wire_count, uses_all}
+use Rattle.compress.proofs.Rest.{rest_length, rest_front, rest_same}
+use Rattle.compress.proofs.Wires.{length_wires, wire_count, uses_lent}
 use Rattle.rows.proofs.Each.{AllOf, first_holds, all_wires}
 use Rattle.mending.specs.Replace.{replace_edges, replace_wires}
 use Rattle.mending.specs.Steps.{Replaceable, Mended}
 use Rattle.mending.proofs.Wires.{edges_small}
 
 -- as many wires as before
-length_replaced_wires : (added : List ℕ) (ws : List (List ℕ)) → length (replace_wires added ws) ≡ length ws
+length_replaced_wires : (added : List (Option ℕ)) (ws : List (List ℕ)) → length (replace_wires added ws) ≡ length ws
 unfolding replace_wires
 length_replaced_wires added [] = refl
 length_replaced_wires added (w ∷ ws) = ap suc (length_replaced_wires added ws)
 
-pub length_replaced : (added us ls : List ℕ) → length (replace_wires added (wires_of us ls)) ≡ length ls
+pub length_replaced : (added : List (Option ℕ)) (us ls : List ℕ) → length (replace_wires added (wires_of us ls)) ≡ length ls
 length_replaced added us ls = length_replaced_wires added (wires_of us ls) ∙ length_wires us ls
-
--- a part from at on that was lent and came back: its front is laid after what stood before it
-pub laid : {A : Type 0} (out ys : List A) (at n : ℕ) → at ≤ length out → n ≤ length ys
-    → take (at + n) (take at out ++ (ys ++ drop (length out - at) (drop at out))) ≡ take at out ++ take n ys
-laid out ys at n h g =
-    let l : length (take at out) ≡ at = length-take-le at out h in
-    let p : at + n ≡ length (take at out) + n = omega arith in
-    rw (p, take-append-add, take-append-le n ys (drop (length out - at) (drop at out)) g)
-
-pub laid_length : {A : Type 0} (out ys : List A) (at : ℕ) → at ≤ length out → length ys ≡ length out - at
-    → length (take at out ++ (ys ++ drop (length out - at) (drop at out))) ≡ length out
-laid_length out ys at h g =
-    let l : length (take at out) ≡ at = length-take-le at out h in
-    simp (length-append, length-drop) (omega arith)
 
 -- What is asked of a wire where the map has m edges.
 abbrev pub Mendable : ℕ → List ℕ → Type 0
 Mendable m w = (length w ≤ 1024) × ((k : ℕ) → k < length w → get_or w k 0 / 2 < m)
 
 -- w wires are mended, to `at` uses in the front of the buffer, and the wires `rest` of all are left.
-pub record Wiring (added : List ℕ) (all : List (List ℕ)) (out₀ ol₀ out ol : List ℕ) (w at : ℕ) (rest : List (List ℕ)) : Type 0 where
+pub record Wiring (added : List (Option ℕ)) (all : List (List ℕ)) (out₀ ol₀ out ol : List ℕ) (w at : ℕ) (rest : List (List ℕ)) : Type 0 where
   pub sound : AllOf (Mendable (length added)) rest
   pub places : w + length rest ≤ length ol₀
   pub count : w + length rest ≡ length all
@@ -52,11 +40,11 @@ pub record Wiring (added : List ℕ) (all : List (List ℕ)) (out₀ ol₀ out o
   pub uses : take at out ++ uses_of (replace_wires added rest) ≡ uses_of (replace_wires added all)
   pub lengths : take w ol ++ lengths_of (replace_wires added rest) ≡ lengths_of (replace_wires added all)
 
-pub wiring_start : (us ls : List ℕ) (wires : ℕ) (added out₀ ol₀ : List ℕ) (rest : List (List ℕ)) → Replaceable us ls wires added out₀ ol₀
+pub wiring_start : (us ls : List ℕ) (wires : ℕ) (added : List (Option ℕ)) (out₀ ol₀ : List ℕ) (rest : List (List ℕ)) → Replaceable us ls wires added out₀ ol₀
     → rest ≡ wires_of us (take wires ls) → Wiring added (wires_of us (take wires ls)) out₀ ol₀ out₀ ol₀ 0 0 rest
 wiring_start us ls wires added out₀ ol₀ rest R e =
     let c : length (wires_of us (take wires ls)) ≡ wires = wire_count us ls wires R.wires_le in
-    let t : length (uses_of (wires_of us (take wires ls))) ≡ total (take wires ls) = rw (uses_all us (take wires ls)) (length-take-le _ us R.lent) in
+    let t : length (uses_of (wires_of us (take wires ls))) ≡ total (take wires ls) = uses_lent us (take wires ls) R.lent in
     record {
       sound = rw e (all_wires (λ u. u / 2 < length added) us (take wires ls) 1024 R.lent R.few R.edges);
       places = rw e (omega (arith, c, R.places));
@@ -68,7 +56,7 @@ wiring_start us ls wires added out₀ ol₀ rest R e =
       lengths = rw e refl;
     }
 
-module _ (added : List ℕ) (all : List (List ℕ)) (out₀ ol₀ out ol : List ℕ) (w at : ℕ) (rest left : List (List ℕ)) (wire : List ℕ)
+module _ (added : List (Option ℕ)) (all : List (List ℕ)) (out₀ ol₀ out ol : List ℕ) (w at : ℕ) (rest left : List (List ℕ)) (wire : List ℕ)
     (M : Wiring added all out₀ ol₀ out ol w at rest) (e : rest ≡ wire ∷ left) where
   pub mendable : Mendable (length added) wire
   mendable = (first_holds (Mendable (length added)) rest left wire e M.sound).0
@@ -83,15 +71,12 @@ module _ (added : List ℕ) (all : List (List ℕ)) (out₀ ol₀ out ol : List 
   pub place_for : w < length ol
   place_for = omega (arith, M.places, count_left, M.same_ol)
 
-  -- the part of the buffer from `at` on has two places for each use of the wire
-  part_length : length (take (length out - at) (drop at out)) ≡ length out - at
-  part_length = length-take-le (length out - at) (drop at out) (rw length-drop (omega arith))
-
   pub lies : at ≤ length out
   lies = omega (arith, M.room, M.same_out)
 
+  -- the part of the buffer from `at` on has two places for each use of the wire
   pub wire_room : length wire * 2 ≤ length (take (length out - at) (drop at out))
-  wire_room = omega (arith, part_length, size, M.room, M.same_out)
+  wire_room = omega (arith, rest_length out at, size, M.room, M.same_out)
 
   pub wire_small : (n : ℕ) → n ≡ length (replace_edges added wire) → n ≤ length wire * 2
   wire_small n q = omega (arith, edges_small added wire)
@@ -103,21 +88,21 @@ module _ (added : List ℕ) (all : List (List ℕ)) (out₀ ol₀ out ol : List 
   unfolding replace_wires uses_of lengths_of
   wiring_turn ys n ly en ey =
       let small : n ≤ length wire * 2 = wire_small n en in
-      let long : length ys ≡ length out - at = ly ∙ part_length in
+      let long : length ys ≡ length out - at = ly ∙ rest_length out at in
       let t : take (w + 1) (set ol w n) ≡ take w ol ++ (n ∷ []) = rw (add-one w) (take-suc-set ol w n place_for) in
       record {
         sound = (first_holds (Mendable (length added)) rest left wire e M.sound).1;
         places = omega (arith, M.places, count_left);
         count = omega (arith, M.count, count_left);
         room = omega (arith, M.room, size, small);
-        same_out = laid_length out ys at lies long ∙ M.same_out;
+        same_out = rest_same out at ys lies long ∙ M.same_out;
         same_ol = length-set ol w n ∙ M.same_ol;
-        uses = rw (laid out ys at n lies (omega (arith, long, wire_room, part_length, small)), ey, append_assoc) (rw e at M.uses);
+        uses = rw (rest_front out at ys n lies, ey, append_assoc) (rw e at M.uses);
         lengths = rw (t, append_snoc, en) (rw e at M.lengths);
       }
 
-pub wiring_done : (added : List ℕ) (all : List (List ℕ)) (out₀ ol₀ out ol : List ℕ) (w at : ℕ) (rest : List (List ℕ)) → Wiring added all out₀ ol₀ out ol w at rest
-    → rest ≡ [] → Mended (replace_wires added all) out ol at
+pub wiring_done : (added : List (Option ℕ)) (all : List (List ℕ)) (out₀ ol₀ out ol : List ℕ) (w at : ℕ) (rest : List (List ℕ))
+    → Wiring added all out₀ ol₀ out ol w at rest → rest ≡ [] → Mended (replace_wires added all) out ol at
 unfolding replace_wires uses_of lengths_of
 wiring_done added all out₀ ol₀ out ol w at rest M e =
     let u : take at out ≡ uses_of (replace_wires added all) = sym (append-nil (take at out)) ∙ rw e at M.uses in

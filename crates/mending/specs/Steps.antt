@@ -1,21 +1,22 @@
 -- What the mending of wires asks and leaves. Definitions only.
-use Rattle.std.specs.Prelude.{◌≡◌, Bool, ◌&&◌, Result, Ok, Err, is_ok, List, ℕ, ◌*◌, ◌/◌, ◌≤◌, ◌<◌, length, get_or, take}
+use Rattle.std.specs.Prelude.{◌≡◌, Bool, ◌&&◌, Option, None, IfSome, Result, Ok, Err, is_ok, List, ℕ, ◌*◌, ◌/◌, ◌≤◌, ◌<◌, length, get_or, take}
 use Rattle.compress.specs.Records.{pick}
 use Rattle.compress.specs.Shell.{uses_fit}
 use Rattle.compress.specs.Wires.{total, uses_of, lengths_of, over}
 use Rattle.mending.specs.declared.NoRoom.{NoRoom}
 
--- each entry is the number of an edge, which a use can name, or 0
-abbrev pub AreNumbers : List ℕ → Type 0
-AreNumbers added = (k : ℕ) → get_or added k 0 < 2147483648
+-- each entry that is there is the number of an edge, which a use can name: a clause of three functions of this crate and no type, which two callers would
+-- make to have it taken apart
+abbrev pub AreNumbers : List (Option ℕ) → Type 0
+AreNumbers added = (k : ℕ) → IfSome (get_or added k None) (λ m. m < 2147483648)
 
 -- the wires lie in their slices, each use is of an edge that `added` has, and there are two places for each use and one for each length
-pub record Replaceable (us ls : List ℕ) (wires : ℕ) (added out out_lengths : List ℕ) : Type 0 where
+pub record Replaceable (us ls : List ℕ) (wires : ℕ) (added : List (Option ℕ)) (out out_lengths : List ℕ) : Type 0 where
   pub wires_le : wires ≤ length ls
   pub few : total (take wires ls) ≤ 1024
   pub lent : total (take wires ls) ≤ length us
   pub edges : (k : ℕ) → k < total (take wires ls) → get_or us k 0 / 2 < length added
-  pub small : (k : ℕ) → get_or added k 0 < 2147483648
+  pub small : AreNumbers added
   pub room : total (take wires ls) * 2 ≤ length out
   pub places : wires ≤ length out_lengths
 

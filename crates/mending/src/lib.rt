@@ -1,7 +1,7 @@
 // Wires mended after their edges were cut: `replace_edges` of document 001, and all wires of a call mended in place where there is room.
 #![tactic(auto)]
 
-ghost use Rattle.std.specs.Prelude.{◌≡◌, ℕ, ◌+◌, ◌*◌, ◌/◌, ◌≤◌, ◌<◌, length, get_or, take};
+ghost use Rattle.std.specs.Prelude.{◌≡◌, ℕ, ◌+◌, ◌*◌, ◌/◌, ◌≤◌, ◌<◌, length, get_or, take, IfSome};
 ghost use Rattle.std.proofs.lemmas.List.Edits.{sets};
 ghost use Rattle.compress.specs.declared.Refusal.TheVariants.{NoRoom};
 ghost use Rattle.compress.specs.Wires.{total, UsesBelow};
@@ -22,23 +22,22 @@ enum Parts {
     Two(u32, u32),
 }
 
-// The use u, where `new` is the edge cut off its edge, and 0 where that was not cut. A table of Option<u32> is
-// slower, measured: to fill 4,096 entries takes 1,357 ns, of numbers 94. Option<NonZeroU32> takes 95, but each definition says the number.
-fn replace_use(u: u32, new: u32) -> Parts
-    requires { new < 2147483648 }
+// The use u, where `new` is the edge cut off its edge, if that was cut.
+fn replace_use(u: u32, new: Option<u32>) -> Parts
+    requires { IfSome new (λ m. m < 2147483648) }
     ensures { uses_of_parts result ≡ replace_use u new }
 {
-    if new == 0 {
+    let Some(new) = new else {
         return Parts::One(u);
-    }
+    };
     if u % 2 == 0 {
         return Parts::Two(u, new * 2);
     }
     Parts::Two(new * 2 + 1, u)
 }
 
-// The uses are written from place `at` on, and the place after them is the answer: the mended wire goes to a place in fixed memory. No ArrayVec:
-// no crate below `healing` uses a crate of the kit.
+// The uses are written from place `at` on, and the place after them is the answer. Local arrays and places in them, here, below and wherever a wire is
+// built, by two rules of the project: document 01 names the form, and what hosts link stands on std alone (docs/DECISIONS.md), so no ArrayVec.
 fn push(out: &mut [u32], at: usize, p: Parts) -> usize
     requires { at + 2 ≤ length out.old }
     ensures { (result ≡ at + length (uses_of_parts p)) × (out.new ≡ sets out.old at (uses_of_parts p)) }
@@ -57,7 +56,7 @@ fn push(out: &mut [u32], at: usize, p: Parts) -> usize
 }
 
 // `replace_edges`: the mended wire is written to `out`, and its length is the answer.
-fn replace_edges(wire: &[u32], added: &[u32], out: &mut [u32]) -> usize
+fn replace_edges(wire: &[u32], added: &[Option<u32>], out: &mut [u32]) -> usize
     requires wire_in_bounds { length wire.now * 2 ≤ length out.old }
     requires by_index { UsesBelow (length added.now) wire.now }
     requires by_index_2 { AreNumbers added.now }
@@ -72,9 +71,13 @@ fn replace_edges(wire: &[u32], added: &[u32], out: &mut [u32]) -> usize
     k
 }
 
-// Every wire is mended: the uses go to `out` and the lengths to `out_lengths`. The answer is the count of uses. Places in fixed memory are
-// counted: no heap, and no crate of the kit here.
-fn replace_wires(wires: &Wires, added: &[u32], out: &mut [u32], out_lengths: &mut [u32]) -> usize
+// Every wire is mended: the uses go to `out` and the lengths to `out_lengths`. The answer is the count of uses.
+fn replace_wires(
+    wires: &Wires,
+    added: &[Option<u32>],
+    out: &mut [u32],
+    out_lengths: &mut [u32],
+) -> usize
     requires { Replaceable wires.now.uses.now wires.now.lengths.now wires.now.count added.now out.old out_lengths.old }
     ensures { Mended (replace_wires added.now (wires_in wires.now)) out.new out_lengths.new result }
 {
@@ -106,7 +109,7 @@ impl From<NoRoom> for Refusal {
 // The wires are mended in place by way of a buffer of N uses, and not at all where there is no room: how many uses they have.
 fn mend_within<const N: usize>(
     wires: &mut WiresMut,
-    added: &[u32],
+    added: &[Option<u32>],
     room: bool,
 ) -> Result<usize, NoRoom>
     requires uses_few { (total (take wires.old.count wires.old.lengths.now) * 2 ≤ N) × (N ≤ 2048) }
@@ -132,8 +135,9 @@ fn mend_within<const N: usize>(
 }
 
 // Every wire is mended in place, where there is room for all of them: `room` tells it of the tables, and the uses are judged here.
-// Few uses have a small buffer, since to zero it takes time.
-pub fn mend_wires(wires: &mut WiresMut, added: &[u32], room: bool) -> Result<usize, NoRoom>
+// `room` stays an argument: where it is false the count is told all the same. Few uses have a small buffer, since to zero it takes time. That the wires
+// have no cause is asked here and at the two passes, and is no ghost field of `WiresMut`: the wires are written, and then name edges past that count.
+pub fn mend_wires(wires: &mut WiresMut, added: &[Option<u32>], room: bool) -> Result<usize, NoRoom>
     requires wires_value { wires_cause (length added.now) wires.old.uses.now wires.old.lengths.now wires.old.count ≡ 0 }
     requires added_small { AreNumbers added.now }
     ensures mended { let w = wires.old in

@@ -14,37 +14,36 @@ use Rattle.compress.specs.declared.Vertex.{Vertex}
 use Rattle.compress.specs.Records.{pick, forward, front_of, front_at}
 use Rattle.compress.specs.Rows.{HasRow}
 use Rattle.compress.specs.Said.{result}
-use Rattle.rows.specs.declared.tables.Tables.{Tables}
+use Rattle.nearest.specs.declared.sound.SoundTables.{SoundTables}
 use Rattle.rows.specs.Held.{edges_in}
 use Rattle.checks.proofs.Accepted.{edges_accepted, edge_ends, vertices_accepted}
 use Rattle.compress.specs.Choice.{smaller}
 use Rattle.nearest.specs.declared.Away.{Away}
 use Rattle.compress.specs.Points.{point_of}
-use Rattle.nearest.specs.Tables.{AreSound}
 use Rattle.nearest.specs.Ends.{away_at, gap_of, gap_from, fronts_of, nearest_front, ends_from, nearest_ends}
 
 pick_below : (b : Bool) (x y v : ℕ) → x < v → y < v → pick b x y < v
 pick_below true x y v h k = h
 pick_below false x y v h k = k
 
-module _ (t : Tables) (S : AreSound t) where
+module _ (t : SoundTables) where
   -- the front of a use is one of the vertices
   pub front_below : (u f : ℕ) → u / 2 < t.edges.count → f ≡ front_at (edges_in t.edges) u → f < t.vertices.count
   unfolding front_at front_of
   front_below u f h r =
       let e = edges_in t.edges (u / 2) in
-      let a = edge_ends t.vertices.count e ((edges_accepted t.vertices.count t.edges.numbers.now t.edges.floats.now t.edges.count S.edges).rows (u / 2) h) in
+      let a = edge_ends t.vertices.count e ((edges_accepted _ _ _ _ t.edges_sound).rows (u / 2) h) in
       rw r (pick_below (forward u) e.front e.back t.vertices.count a.0 a.1)
 
   -- the row of a use's edge, and of a vertex, lies in its slices
   pub edge_row : (i : ℕ) → i < t.edges.count → HasRow 4 6 t.edges.numbers.now t.edges.floats.now i
   edge_row i h =
-      let a = edges_accepted t.vertices.count t.edges.numbers.now t.edges.floats.now t.edges.count S.edges in
+      let a = edges_accepted _ _ _ _ t.edges_sound in
       (omega (arith, a.numbers), omega (arith, a.floats))
 
   pub vertex_row : (i : ℕ) → i < t.vertices.count → HasRow 3 7 t.vertices.numbers.now t.vertices.floats.now i
   vertex_row i h =
-      let a = vertices_accepted t.vertices.numbers.now t.vertices.floats.now t.vertices.count S.vertices in
+      let a = vertices_accepted _ _ _ t.vertices_sound in
       (omega (arith, a.numbers), omega (arith, a.floats))
 
 pub smaller_below : (f : ℕ → Float) (a b v : ℕ) → a < v → b < v → smaller f a b < v

@@ -8,18 +8,20 @@ ghost use Rattle.compress.specs.Points.{point_of};
 ghost use Rattle.compress.specs.Rows.{HasRow};
 ghost use Rattle.compress.specs.Said.{said_if};
 ghost use Rattle.nearest.specs.Ends.{point_gap, away_at, gap_of, nearest_front, nearest_ends};
-ghost use Rattle.nearest.specs.Tables.{AreSound};
 ghost use Rattle.rows.specs.Held.{vertices_in, edges_in};
 
+pub mod sound;
+
 use compress::{Vertex, Xyz};
-use rows::tables::{Table, Tables};
+use rows::tables::Table;
+use sound::SoundTables;
 
 // The squared distance of two points.
 #[tactic(auto, unfolding(crate::specs::Ends::point_gap))]
 fn gap(p: Xyz, q: Xyz) -> f64
     ensures { result ≡ point_gap p q }
 {
-    floats::distance2_xyz(p.x, p.y, p.z, q.x, q.y, q.z)
+    floats::distance2_xyz(p, q)
 }
 
 // A vertex, with its squared distance from a point.
@@ -64,8 +66,7 @@ fn away_at(vertices: &Table<Vertex>, from: Xyz, v: u32) -> Away
 }
 
 // The front that is nearest to vertex p in a stretch of use u and those that follow.
-fn nearest_front(tables: &Tables, u: u32, us: &[u32], p: u32) -> u32
-    requires sound { AreSound tables.now }
+fn nearest_front(tables: &SoundTables, u: u32, us: &[u32], p: u32) -> u32
     requires p_in_table { p < tables.now.vertices.count }
     requires u_in_table { u / 2 < tables.now.edges.count }
     requires us_in_table { UsesBelow tables.now.edges.count us.now }
@@ -84,8 +85,7 @@ fn nearest_front(tables: &Tables, u: u32, us: &[u32], p: u32) -> u32
 
 // From v0 the nearest front of the second stretch, from there the nearest front of the first. "An empty stretch gives "none"."
 #[tactic(auto, unfolding(crate::specs::Ends::nearest_ends))]
-pub fn nearest_ends(tables: &Tables, first: &[u32], second: &[u32], v0: u32) -> Option<Ends>
-    requires sound { AreSound tables.now }
+pub fn nearest_ends(tables: &SoundTables, first: &[u32], second: &[u32], v0: u32) -> Option<Ends>
     requires v0_in_table { v0 < tables.now.vertices.count }
     requires first_in_table { UsesBelow tables.now.edges.count first.now }
     requires second_in_table { UsesBelow tables.now.edges.count second.now }

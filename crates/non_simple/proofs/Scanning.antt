@@ -14,7 +14,6 @@ use Rattle.compress.specs.Said.{Said, result, none, refused}
 use Rattle.compress.specs.Wires.{wires_of, UsesBelow}
 use Rattle.rows.specs.declared.lent.Wires.{Wires}
 use Rattle.rows.specs.declared.lent.EachWire.{EachWire}
-use Rattle.rows.specs.declared.tables.Tables.{Tables}
 use Rattle.rows.specs.Held.{wires_in}
 use Rattle.rows.proofs.Each.{AllOf, first_holds, all_wires}
 use Rattle.compress.proofs.Refused.{said_refused, said_checked}
@@ -25,7 +24,8 @@ use Rattle.points.proofs.Accepted.{TablesAccepted, tables_accepted}
 use Rattle.wires.specs.Turn.{turned}
 use Rattle.wires.proofs.Turns.{length_turned, get_or_turned}
 use Rattle.nearest.specs.declared.Ends.{Ends}
-use Rattle.nearest.specs.Tables.{AreSound, IsWire}
+use Rattle.nearest.specs.declared.sound.SoundTables.{SoundTables}
+use Rattle.divisor.specs.Wires.{IsWire}
 use Rattle.points.specs.Tables.{tables_cause}
 use Rattle.non_simple.specs.Divisor.{wire_divisor, or_next, find_divisor, search_cause}
 
@@ -41,16 +41,16 @@ module _ (w : List ℕ) (i : ℕ) (h : i ≤ length w) where
       rw (get_or_turned i k w h l) (us ((i + k) % length w) (mod-lt (i + k) p))
 
 -- a wire that is turned, and written to the front of a list
-pub turned_wire : (t : Tables) (w out rest : List ℕ) (i : ℕ) → out ≡ turned i w ++ rest → i < length w → IsWire t.edges.count w → IsWire t.edges.count (take (length w) out)
-turned_wire t w out rest i e lt is =
+pub turned_wire : (m : ℕ) (w out rest : List ℕ) (i : ℕ) → out ≡ turned i w ++ rest → i < length w → IsWire m w → IsWire m (take (length w) out)
+turned_wire m w out rest i e lt is =
     let le : i ≤ length w = omega (arith, lt) in
-    rw (turned_front w i le out rest e) (omega (arith, is.0, length_turned i w le), turned_uses w i le t.edges.count (omega (arith, lt)) is.1)
+    rw (turned_front w i le out rest e) (omega (arith, is.0, length_turned i w le), turned_uses w i le m (omega (arith, lt)) is.1)
 
 -- the places of 4,096 edges have one for each use
-pub has_place : (t : Tables) → AreSound t → (w places : List ℕ) → UsesBelow t.edges.count w → length places ≡ 4096
+pub has_place : {A : Type 0} (t : SoundTables) (w : List ℕ) (places : List A) → UsesBelow t.edges.count w → length places ≡ 4096
     → (k : ℕ) → k < length w → get_or w k 0 / 2 < length places
-has_place t S w places known n k lt =
-    let a = edges_accepted t.vertices.count t.edges.numbers.now t.edges.floats.now t.edges.count S.edges in
+has_place t w places known n k lt =
+    let a = edges_accepted _ _ _ _ t.edges_sound in
     omega (arith, a.below, known k lt, n)
 
 -- ---- all wires

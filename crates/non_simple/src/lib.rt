@@ -2,48 +2,48 @@
 #![tactic(auto)]
 
 ghost use Rattle.std.specs.Prelude.{◌≡◌, ◌-◌, ◌<◌, length};
-ghost use Rattle.nearest.specs.Tables.{AreSound, IsWire};
 ghost use Rattle.compress.specs.Refusals.{cause_of};
 ghost use Rattle.compress.specs.Said.{said_if};
 ghost use Rattle.rows.specs.Held.{vertices_in, edges_in, wires_in};
 ghost use Rattle.checks.specs.Causes.{wires_cause};
 ghost use Rattle.divisor.specs.Divided.{turned_divisor};
+ghost use Rattle.divisor.specs.Wires.{IsWire};
 ghost use Rattle.non_simple.specs.Divisor.{wire_divisor, find_divisor, search_cause, find_non_simple};
 ghost use Rattle.wires.specs.Turn.{turned};
 
-use compress::{Checked, Edge, Refusal, Vertex};
+use compress::{Checked, Refusal};
+use divisor::doubled::Doubled;
 use loops::Pair;
 use nearest::Ends;
+use nearest::sound::SoundTables;
 use rows::lent::Wires;
-use rows::tables::{Table, Tables};
+use rows::tables::Tables;
 
 // ---- one wire
 
-// `non_simple_wire_divisor`, for a wire that is turned so that the earlier place is 0 and the later one j0.
+// `non_simple_wire_divisor`, for a wire that is turned. The tables and the places are two parameters, here and below: a method of both would have to say
+// that it keeps the tables.
 fn turned_divisor(
-    tables: &Tables,
-    wire: &[u32],
-    j0: usize,
-    places: &mut [u32; 4096],
+    tables: &SoundTables,
+    doubled: &Doubled,
+    places: &mut [Option<u16>; 4096],
 ) -> Result<Option<Ends>, Refusal>
-    requires sound { AreSound tables.now }
-    requires j0_in_wire { (0 < j0) × (j0 < length wire.now) }
-    requires wire_sound { IsWire tables.now.edges.count wire.now }
-    ensures { said_if (λ e. e) result ≡ turned_divisor (edges_in tables.now.edges) (vertices_in tables.now.vertices) wire.now j0 }
+    requires wire_sound { IsWire tables.now.edges.count doubled.now.wire.now }
+    ensures { said_if (λ e. e) result ≡ turned_divisor (edges_in tables.now.edges) (vertices_in tables.now.vertices)
+        doubled.now.wire.now doubled.now.j0 }
 {
-    let found = loops::find_loop(wire, j0 + 1, places);
-    divisor::divide(tables, wire, j0, found)
+    let found = loops::find_loop(doubled.wire, doubled.j0 + 1, places);
+    divisor::divide(tables, doubled, found)
 }
 
 // The wire is turned so that the earlier of the two places is 0, and divided.
 #[tactic(auto, using(crate::proofs::Scanning::turned_front))]
 fn turn_and_divide(
-    tables: &Tables,
+    tables: &SoundTables,
     wire: &[u32],
     first: Pair,
-    places: &mut [u32; 4096],
+    places: &mut [Option<u16>; 4096],
 ) -> Result<Option<Ends>, Refusal>
-    requires sound { AreSound tables.now }
     requires first_in_wire { (first.earlier < first.later) × (first.later < length wire.now) }
     requires wire_sound { IsWire tables.now.edges.count wire.now }
     ensures { said_if (λ e. e) result ≡ turned_divisor (edges_in tables.now.edges) (vertices_in tables.now.vertices)
@@ -51,22 +51,20 @@ fn turn_and_divide(
 {
     let mut out = [0u32; 1024];
     wires::rotate_left(wire, first.earlier, &mut out);
-    turned_divisor(
-        tables,
-        &out[..wire.len()],
-        first.later - first.earlier,
-        places,
-    )
+    let doubled = Doubled {
+        wire: &out[..wire.len()],
+        j0: first.later - first.earlier,
+    };
+    turned_divisor(tables, &doubled, places)
 }
 
 // `non_simple_wire_divisor`: the two vertices between which a wire that uses an edge twice is to be divided.
 #[tactic(auto, using(loops::proofs::Repeats::pair_in), unfolding(crate::specs::Divisor::wire_divisor))]
 fn wire_divisor(
-    tables: &Tables,
+    tables: &SoundTables,
     wire: &[u32],
-    places: &mut [u32; 4096],
+    places: &mut [Option<u16>; 4096],
 ) -> Result<Option<Ends>, Refusal>
-    requires sound { AreSound tables.now }
     requires wire_sound { IsWire tables.now.edges.count wire.now }
     ensures { said_if (λ e. e) result ≡ wire_divisor (edges_in tables.now.edges) (vertices_in tables.now.vertices) wire.now }
 {
@@ -81,11 +79,10 @@ fn wire_divisor(
 // The wires in order, until one of them answers or is refused.
 #[tactic(auto, using(crate::proofs::Scanning::scanning))]
 fn search_wires(
-    tables: &Tables,
+    tables: &SoundTables,
     wires: &Wires,
-    places: &mut [u32; 4096],
+    places: &mut [Option<u16>; 4096],
 ) -> Result<Option<Ends>, Refusal>
-    requires sound { AreSound tables.now }
     requires wires_sound { wires_cause tables.now.edges.count wires.now.uses.now wires.now.lengths.now wires.now.count ≡ 0 }
     ensures { said_if (λ e. e) result ≡ find_divisor (edges_in tables.now.edges) (vertices_in tables.now.vertices) (wires_in wires.now) }
 {
@@ -112,20 +109,18 @@ fn search_cause(tables: &Tables, wires: &Wires) -> Checked
 
 // `find_non_simple_wire_divisor`: of the wires in order the first that can be divided, by the two vertices between which it is.
 #[tactic(auto, using(crate::proofs::Scanning::checked), unfolding(crate::specs::Divisor::find_non_simple))]
-pub fn find_non_simple_wire_divisor(
-    vertices: &Table<Vertex>,
-    edges: &Table<Edge>,
-    wires: &Wires,
-) -> Result<Option<Ends>, Refusal>
-    ensures { said_if (λ e. e) result ≡ find_non_simple vertices.now.numbers.now vertices.now.floats.now
-        edges.now.numbers.now edges.now.floats.now
-        wires.now.uses.now wires.now.lengths.now vertices.now.count edges.now.count wires.now.count }
+pub fn find_non_simple_wire_divisor(tables: &Tables, wires: &Wires) -> Result<Option<Ends>, Refusal>
+    ensures { let v = tables.now.vertices in
+        let e = tables.now.edges in
+        let w = wires.now in
+        said_if (λ e. e) result ≡ find_non_simple v.numbers.now v.floats.now e.numbers.now e.floats.now
+        w.uses.now w.lengths.now v.count e.count w.count }
 {
-    let tables = Tables {
-        vertices: *vertices,
-        edges: *edges,
+    search_cause(tables, wires)?;
+    let tables = SoundTables {
+        vertices: tables.vertices,
+        edges: tables.edges,
     };
-    search_cause(&tables, wires)?;
-    let mut places = [0u32; 4096];
+    let mut places = [None; 4096];
     search_wires(&tables, wires, &mut places)
 }

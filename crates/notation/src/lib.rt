@@ -6,7 +6,7 @@ ghost use Rattle.std.specs.Prelude.{◌≡◌, ◌==◌, count_by, drop, get_or,
 use rows::lent;
 use std::fmt;
 
-// The entry at i, or 0 past the end.
+// The entry at i, or 0 past the end, as the definition `get_or` has it.
 pub fn at(s: &[u32], i: usize) -> u32
     ensures { result ≡ get_or s.now i 0 }
 {

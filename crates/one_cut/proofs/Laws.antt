@@ -5,11 +5,12 @@ use mathlib.Core.Bool.{Bool, true, false}
 use mathlib.Core.List.{List, [], ◌∷◌}
 use Prim.Native.Nat.{ℕ, ◌+◌, ◌*◌, ◌/◌, ◌<◌}
 use native.Mathlib.Omega.{arith}
-use borrow.Author.Tests.{eqb-true, eqb-false, ne_eqb}
+use borrow.Author.Tests.{eqb-true, eqb-false}
 use lib.Dec.{eqb}
 use lib.Ieee.{Float}
 use lib.ListN.{length, get_or, set, replicate, length-set, length-replicate, get_or-append}
 use lib.Seq.{get_or-append-add, get_or-set_same, get_or-set_other}
+use Rattle.std.specs.Prelude.{Option, Some, None}
 use Rattle.compress.specs.declared.Edge.{Edge}
 use Rattle.compress.specs.Records.{pick, forward}
 use Rattle.compress.specs.Rows.{edge_at}
@@ -25,16 +26,17 @@ use Rattle.cuts.specs.declared.Cut.{Cut}
 use Rattle.one_cut.specs.Cut.{added_at, cut_once}
 use Rattle.one_cut.specs.Contract.{one_cut_cause}
 use Rattle.one_cut.specs.Pieces.{pieces_of}
-use Rattle.one_cut.proofs.Outcome.{all_alike, call_checked}
+use Rattle.compress.proofs.Cells.{all_alike}
+use Rattle.one_cut.proofs.Outcome.{call_checked}
 
 -- the map names edge i alone
-pub added_here : (n i m : ℕ) → i < n → get_or (added_at n i m) i 0 ≡ m
+pub added_here : (n i m : ℕ) → i < n → get_or (added_at n i m) i None ≡ Some m
 unfolding added_at
-added_here n i m lt = get_or-set_same (replicate n 0) i m 0 (omega (arith, length-replicate {A = ℕ} n 0))
+added_here n i m lt = get_or-set_same (replicate n None) i (Some m) None (omega (arith, length-replicate {A = Option ℕ} n None))
 
-pub added_else : (n i m k : ℕ) → (k ≡ i → ⊥) → get_or (added_at n i m) k 0 ≡ 0
+pub added_else : (n i m k : ℕ) → (k ≡ i → ⊥) → get_or (added_at n i m) k None ≡ None
 unfolding added_at
-added_else n i m k ne = get_or-set_other (replicate n 0) i k m 0 ne ∙ all_alike {A = ℕ} 0 n k
+added_else n i m k ne = get_or-set_other (replicate n None) i k (Some m) None ne ∙ all_alike {A = Option ℕ} None n k
 
 module _ (d : Edge) (s : Shell) (i : ℕ) (e : Edge) (c : Cut) (lt : i < length s.edges) (is : e ≡ get_or s.edges i d) where
   abbrev n : ℕ
@@ -60,30 +62,35 @@ module _ (d : Edge) (s : Shell) (i : ℕ) (e : Edge) (c : Cut) (lt : i < length 
       let p : length (set s.edges i (halves_of e c.t (length s.vertices)).old) + 0 ≡ n = omega arith in
       rw (← p) (get_or-append-add (set s.edges i (halves_of e c.t (length s.vertices)).old) ((halves_of e c.t (length s.vertices)).new ∷ []) 0 d)
 
-  kept : (k : ℕ) (b : Bool) → eqb k i ≡ b → k < n → get_or (added_at n i n) k 0 ≡ 0
+  kept : (k : ℕ) (b : Bool) → eqb k i ≡ b → k < n → get_or (added_at n i n) k None ≡ None
       → ((edge_in d after k).front ≡ (edge_in d s k).front) × ((edge_in d after k).back ≡ (edge_in d s k).back)
   kept k true p h z =
-      let q : n ≡ 0 = sym (added_here n i n lt) ∙ (rw (eqb-true k i p) at z) in
-      absurd (omega (arith, q, lt))
+      let q : ◌≡◌ {A = Option ℕ} (Some n) None = sym (added_here n i n lt) ∙ (rw (eqb-true k i p) at z) in
+      cc
   kept k false p h z =
       let q = after_else k h (eqb-false k i p) in
       (ap (λ (x : Edge). x.front) q, ap (λ (x : Edge). x.back) q)
 
-  cut : (k : ℕ) (b : Bool) → eqb k i ≡ b → k < n → (get_or (added_at n i n) k 0 ≡ 0 → ⊥)
-      → ((edge_in d after k).front ≡ (edge_in d s k).front) × ((edge_in d after k).back ≡ (edge_in d after (get_or (added_at n i n) k 0)).front) × ((edge_in d after (get_or (added_at n i n) k 0)).back ≡ (edge_in d s k).back)
+  cut : (k m : ℕ) (b : Bool) → eqb k i ≡ b → k < n → get_or (added_at n i n) k None ≡ Some m
+      → ((edge_in d after k).front ≡ (edge_in d s k).front) × ((edge_in d after k).back ≡ (edge_in d after m).front)
+      × ((edge_in d after m).back ≡ (edge_in d s k).back)
   unfolding halves_of
-  cut k true p h ne =
+  cut k m true p h z =
+      let q : ◌≡◌ {A = Option ℕ} (Some n) (Some m) = sym (added_here n i n lt) ∙ (rw (eqb-true k i p) at z) in
+      let is_n : m ≡ n = cc in
       let a = after_cut in
       let b = after_new in
-      rw (eqb-true k i p, added_here n i n lt) (
+      rw (eqb-true k i p, is_n) (
         ap (λ (x : Edge). x.front) a ∙ ap (λ (x : Edge). x.front) is,
         ap (λ (x : Edge). x.back) a ∙ sym (ap (λ (x : Edge). x.front) b),
         ap (λ (x : Edge). x.back) b ∙ ap (λ (x : Edge). x.back) is,
       )
-  cut k false p h ne = absurd (ne (added_else n i n k (eqb-false k i p)))
+  cut k m false p h z =
+      let q : ◌≡◌ {A = Option ℕ} None (Some m) = sym (added_else n i n k (eqb-false k i p)) ∙ z in
+      cc
 
   halved : Halved (added_at n i n) n (edge_in d s) (edge_in d after)
-  halved = record { kept = λ k h z. kept k (eqb k i) refl h z; cut = λ k h ne. cut k (eqb k i) refl h ne }
+  halved = record { kept = λ k h z. kept k (eqb k i) refl h z; cut = λ k m h z. cut k m (eqb k i) refl h z }
 
   -- connected wires stay connected, and closed ones closed
   pub cut_keeps : UsesKnown s → Keeps d s after
@@ -91,19 +98,18 @@ module _ (d : Edge) (s : Shell) (i : ℕ) (e : Edge) (c : Cut) (lt : i < length 
   cut_keeps known = keeps d s after (added_at n i n) known halved refl
 
   -- "each use of the cut edge becomes its two pieces in order, every other use stands as it did"
-  pieces : (u : ℕ) (b f : Bool) → eqb (u / 2) i ≡ b → forward u ≡ f → replace_use u (get_or (added_at n i n) (u / 2) 0) ≡ pieces_of i n u
+  pieces : (u : ℕ) (b f : Bool) → eqb (u / 2) i ≡ b → forward u ≡ f → replace_use u (get_or (added_at n i n) (u / 2) None) ≡ pieces_of i n u
   unfolding replace_use pieces_of
   pieces u true f p q =
-      let z : eqb n 0 ≡ false = ne_eqb n 0 (λ (g : n ≡ 0). omega (arith, g, lt)) in
-      let a : get_or (added_at n i n) (u / 2) 0 ≡ n = rw (eqb-true (u / 2) i p) (added_here n i n lt) in
-      rw (a, z, p, q) (by f)
+      let a : get_or (added_at n i n) (u / 2) None ≡ Some n = rw (eqb-true (u / 2) i p) (added_here n i n lt) in
+      rw (a, p, q) (by f)
     where
-      by : (f : Bool) → replaced_by false f u n ≡ pick f (u ∷ n * 2 ∷ []) ((n * 2 + 1) ∷ u ∷ [])
+      by : (f : Bool) → replaced_by f u n ≡ pick f (u ∷ n * 2 ∷ []) ((n * 2 + 1) ∷ u ∷ [])
       by true = refl
       by false = refl
   pieces u false f p q = rw (added_else n i n (u / 2) (eqb-false (u / 2) i p), p)
 
-  all_pieces : (w : List ℕ) → replaced (λ u. replace_use u (get_or (added_at n i n) (u / 2) 0)) w ≡ replaced (pieces_of i n) w
+  all_pieces : (w : List ℕ) → replaced (λ u. replace_use u (get_or (added_at n i n) (u / 2) None)) w ≡ replaced (pieces_of i n) w
   unfolding replaced
   all_pieces [] = refl
   all_pieces (u ∷ us) = rw (pieces u (eqb (u / 2) i) (forward u) refl refl, all_pieces us)

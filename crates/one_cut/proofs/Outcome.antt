@@ -5,12 +5,12 @@ use mathlib.Core.Bool.{Bool, true, false, ◌&&◌}
 use mathlib.Core.List.{List, [], ◌∷◌, ◌++◌}
 use Prim.Native.Nat.{ℕ, zero, suc, ◌+◌, ◌-◌, ◌*◌, ◌≤◌, ◌<◌}
 use native.Mathlib.Omega.{arith}
-use lib.ListN.{length, get_or, set, take, drop, replicate, length-append, length-set, length-drop, length-replicate}
-use lib.Seq.{length-take-le, take-set-lt}
+use lib.ListN.{length, get_or, set, take, replicate, length-append, length-set, length-replicate}
+use lib.Seq.{take-set-lt}
 use lib.Dec.{eqb, leb, ltb}
 use borrow.Author.Tests.{leb-false, ltb-false}
 use lib.Ieee.{Float, nan}
-use Rattle.std.specs.Prelude.{Option, None, Result, Ok, Err, is_ok}
+use Rattle.std.specs.Prelude.{Option, Some, None, Result, Ok, Err, is_ok}
 use Rattle.compress.specs.declared.Refusal.{Refusal}
 use Rattle.compress.specs.declared.Refusal.TheVariants as refusal
 use Rattle.compress.specs.Said.{result, refused}
@@ -18,17 +18,21 @@ use Rattle.compress.specs.Layout.{store, put, store_from, rows}
 use Rattle.compress.specs.Shell.{Shell, Lent, load, counts_of, vertices_fit, edges_fit}
 use Rattle.checks.specs.Causes.{wires_cause, edge_number_cause, lower_of, when}
 use Rattle.mending.specs.declared.NoRoom.{NoRoom}
-use Rattle.mending.specs.Steps.{InPlace, count_told}
+use Rattle.mending.specs.Steps.{AreNumbers, InPlace, count_told}
 use Rattle.cutting.proofs.Outcome.{result_full, result_done, Accepted, accepted, vertices_stand, way_cause}
 use Rattle.compress.specs.declared.Curve.{Curve}
 use Rattle.compress.specs.declared.Edge.{Edge}
-use Rattle.compress.specs.declared.Vertex.TheVariants.{Given}
+use Rattle.compress.specs.Points.{given}
 use Rattle.compress.specs.Records.{pick, first_of, last_of}
 use Rattle.compress.specs.Refusals.{refusal_number}
 use Rattle.compress.specs.Rows.{curve_of, edge_of, edge_at, vertex_at, edge_number_layout, edge_float_layout, vertex_number_layout, vertex_float_layout}
-use Rattle.compress.specs.Wires.{total, wires_of, uses_of}
+use Rattle.compress.specs.Wires.{total, wires_of}
+use Rattle.compress.proofs.Cells.{all_alike}
+use Rattle.compress.proofs.Wires.{uses_lent}
 use Rattle.compress.proofs.Layouts.{length_rows, rows_none, rows_first, store_first, store_none, store_append, store_set}
-use Rattle.compress.proofs.Room.{both, vertices_room, edges_room}
+use Rattle.std.proofs.lemmas.Bool.{and_parts}
+use Rattle.std.proofs.lemmas.List.{take-replicate}
+use Rattle.compress.proofs.Room.{vertices_room, edges_room}
 use Rattle.compress.proofs.Rows.{edge_numbers_fit, edge_floats_fit, edge_numbers_stand, edge_floats_stand}
 use Rattle.checks.proofs.Accepted.{passed, not_when}
 use Rattle.checks.proofs.Lowest.{lower_none}
@@ -72,46 +76,33 @@ pub asked_is : (l : Lent) (i : ℕ) (cs : List Float) (n : ℕ) {r : Result (Opt
 asked_is l i cs n p q h = rw (p, q) at h
 
 -- ---- the map
-take_replicate : {A : Type 0} (a : A) (n k : ℕ) → n ≤ k → take n (replicate k a) ≡ replicate n a
-take_replicate a zero k h = refl
-take_replicate a (suc n) zero h = absurd (none h)
-  where
-    none : suc n ≤ 0 → ⊥
-    none g = omega arith
-take_replicate {A} a (suc n) (suc k) h = ap (λ (l : List A). a ∷ l) (take_replicate a n k (omega arith))
-
--- the front of a table of zeros with one entry set
-pub marked : (l l' : List ℕ) (n i m : ℕ) → l' ≡ set l i m → l ≡ replicate (length l) 0 → i < n → n ≤ length l → take n l' ≡ added_at n i m
+-- the front of an empty table with one entry set
+pub marked : (l l' : List (Option ℕ)) (n i m : ℕ) → l' ≡ set l i (Some m) → l ≡ replicate (length l) None → i < n → n ≤ length l → take n l' ≡ added_at n i m
 unfolding added_at
 marked l l' n i m q z lt h =
-    rw q (take-set-lt n l i m lt ∙ ap (λ (t : List ℕ). set t i m) (ap (take n) z ∙ take_replicate 0 n (length l) h))
+    rw q (take-set-lt n l i (Some m) lt ∙ ap (λ (t : List (Option ℕ)). set t i (Some m)) (ap (take n) z ∙ take-replicate n (length l) None h))
 
 pub length_added : (n i m : ℕ) → length (added_at n i m) ≡ n
 unfolding added_at
-length_added n i m = length-set (replicate n 0) i m ∙ length-replicate n 0
+length_added n i m = length-set (replicate n None) i (Some m) ∙ length-replicate n None
 
-pub all_alike : {A : Type 0} (a : A) (n k : ℕ) → get_or (replicate n a) k a ≡ a
-all_alike a zero k = refl
-all_alike a (suc n) zero = refl
-all_alike a (suc n) (suc k) = all_alike a n k
+set_small : (l : List (Option ℕ)) (i m : ℕ) → m < 2147483648 → AreNumbers l → AreNumbers (set l i (Some m))
+set_small [] i m lt h k = tt
+set_small (x ∷ l) zero m lt h zero = lt
+set_small (x ∷ l) zero m lt h (suc k) = h (suc k)
+set_small (x ∷ l) (suc i) m lt h zero = h zero
+set_small (x ∷ l) (suc i) m lt h (suc k) = set_small l i m lt (λ j. h (suc j)) k
 
-set_small : (l : List ℕ) (i m bound k : ℕ) → m < bound → get_or l k 0 < bound → get_or (set l i m) k 0 < bound
-set_small [] i m bound k lt h = h
-set_small (x ∷ l) zero m bound zero lt h = lt
-set_small (x ∷ l) zero m bound (suc k) lt h = h
-set_small (x ∷ l) (suc i) m bound zero lt h = h
-set_small (x ∷ l) (suc i) m bound (suc k) lt h = set_small l i m bound k lt h
-
-pub added_small : (n i m k : ℕ) → m ≤ 4096 → get_or (added_at n i m) k 0 < 2147483648
+pub added_small : (n i m : ℕ) → m ≤ 4096 → AreNumbers (added_at n i m)
 unfolding added_at
-added_small n i m k h = set_small (replicate n 0) i m 2147483648 k (omega arith) (rw (all_alike {A = ℕ} 0 n k) (omega arith))
+added_small n i m h = set_small (replicate n None) i m (omega arith) (λ k. rw (all_alike {A = Option ℕ} None n k) tt)
 
 -- the wires can be mended by the map
-pub map_mends : (l : List ℕ) (n i : ℕ) (us ls : List ℕ) (wires : ℕ) → l ≡ added_at n i n → n ≤ 4096 → wires_cause n us ls wires ≡ 0
-    → (wires_cause (length l) us ls wires ≡ 0) × ((k : ℕ) → get_or l k 0 < 2147483648)
+pub map_mends : (l : List (Option ℕ)) (n i : ℕ) (us ls : List ℕ) (wires : ℕ) → l ≡ added_at n i n → n ≤ 4096 → wires_cause n us ls wires ≡ 0
+    → (wires_cause (length l) us ls wires ≡ 0) × AreNumbers l
 map_mends l n i us ls wires q h z =
     let s : length l ≡ n = rw q (length_added n i n) in
-    (rw s z, λ k. rw q (added_small n i n k h))
+    (rw s z, rw q (added_small n i n h))
 
 module _ (vn : List ℕ) (vf : List Float) (en : List ℕ) (ef : List Float) (us ls : List ℕ) (v e w i : ℕ) (c : Cut) where
   abbrev edge_in : Edge
@@ -130,7 +121,7 @@ module _ (vn : List ℕ) (vf : List Float) (en : List ℕ) (ef : List Float) (us
     unfolding cut_once load
     vertices_are =
         let vs = rows (vertex_at vn vf) 0 v in
-        length-append vs (Given c.x c.y c.z ∷ []) ∙ rw (length_rows (vertex_at vn vf) 0 v)
+        length-append vs (given c.point ∷ []) ∙ rw (length_rows (vertex_at vn vf) 0 v)
 
     edges_are : length after.edges ≡ e + 1
     unfolding cut_once load
@@ -152,7 +143,7 @@ module _ (vn : List ℕ) (vf : List Float) (en : List ℕ) (ef : List Float) (us
     pub places : (n : ℕ) → m ≡ Ok n → ((v < 4096) × (v * 3 + 3 ≤ length vn) × (v * 7 + 7 ≤ length vf)) × ((e * 4 + 4 ≤ length en) × (e * 6 + 6 ≤ length ef))
     places n q =
         let t : is_ok m ≡ true = rw q in
-        let f = both (vertices_fit vn vf (v + 1)) (edges_fit en ef (e + 1)) (sym (has 1) ∙ (both (leb 1 room) _ (sym M.fits ∙ t)).0) in
+        let f = and_parts (vertices_fit vn vf (v + 1)) (edges_fit en ef (e + 1)) (sym (has 1) ∙ (and_parts (leb 1 room) _ (sym M.fits ∙ t)).0) in
         let a = vertices_room vn vf (v + 1) f.0 in
         let b = edges_room en ef (e + 1) f.1 in
         ((omega arith, omega arith, omega arith), (omega arith, omega arith))
@@ -177,19 +168,19 @@ module _ (vn : List ℕ) (vf : List Float) (en : List ℕ) (ef : List Float) (us
         )
 
     -- the result, stored: one vertex and two edges are put
-    tables : i < e → (store vertex_number_layout vn after.vertices ≡ put vertex_number_layout vn v (Given c.x c.y c.z))
-        × (store vertex_float_layout vf after.vertices ≡ put vertex_float_layout vf v (Given c.x c.y c.z))
+    tables : i < e → (store vertex_number_layout vn after.vertices ≡ put vertex_number_layout vn v (given c.point))
+        × (store vertex_float_layout vf after.vertices ≡ put vertex_float_layout vf v (given c.point))
         × (store edge_number_layout en after.edges ≡ put edge_number_layout (put edge_number_layout en i (halves_of edge_in c.t v).old) e (halves_of edge_in c.t v).new)
         × (store edge_float_layout ef after.edges ≡ put edge_float_layout (put edge_float_layout ef i (halves_of edge_in c.t v).old) e (halves_of edge_in c.t v).new)
     unfolding cut_once load
     tables lt =
         let lv : length (rows (vertex_at vn vf) 0 v) ≡ v = length_rows (vertex_at vn vf) 0 v in
-        let s = vertices_stand vn vf en ef us ls v e w A (Given c.x c.y c.z ∷ []) in
+        let s = vertices_stand vn vf en ef us ls v e w A (given c.point ∷ []) in
         let t = edges_put lt v in
         (rw (s.0, store_first, store_none), rw (s.1, store_first, store_none), rw lv t.0, rw lv t.1)
 
     pub outcome_done : (vn' : List ℕ) (vf' : List Float) (en' : List ℕ) (ef' : List Float) (n : ℕ) → m ≡ Ok n → i < e
-        → vn' ≡ put vertex_number_layout vn v (Given c.x c.y c.z) → vf' ≡ put vertex_float_layout vf v (Given c.x c.y c.z)
+        → vn' ≡ put vertex_number_layout vn v (given c.point) → vf' ≡ put vertex_float_layout vf v (given c.point)
         → en' ≡ put edge_number_layout (put edge_number_layout en i (halves_of edge_in c.t v).old) e (halves_of edge_in c.t v).new
         → ef' ≡ put edge_float_layout (put edge_float_layout ef i (halves_of edge_in c.t v).old) e (halves_of edge_in c.t v).new
         → leaves (Ok (record { vertices = v + 1; edges = e + 1; uses = n })) vn' vf' en' ef' us' ls' ≡ once_outcome (lent_of vn vf en ef us ls v e w) i c
@@ -201,16 +192,6 @@ module _ (vn : List ℕ) (vf : List Float) (en : List ℕ) (ef : List Float) (us
         rw (← k) (result_done vn vf en ef us ls v e w after 1 vertices_are edges_are room has us' ls' m mended vn' vf' en' ef' t (ev ∙ sym s.0) (evf ∙ sym s.1) (ee ∙ sym s.2) (eef ∙ sym s.3))
 
 -- ---- the call: its ways out
--- the uses of the wires are those that lie in front
-pub uses_lent : (us ls : List ℕ) → total ls ≤ length us → length (uses_of (wires_of us ls)) ≡ total ls
-unfolding uses_of wires_of total
-uses_lent us [] h = refl
-uses_lent us (n ∷ ls) h =
-    let a : length (take n us) ≡ n = length-take-le n us (omega arith) in
-    let b : length (drop n us) ≡ length us - n = length-drop n us in
-    let r : length (uses_of (wires_of (drop n us) ls)) ≡ total ls = uses_lent (drop n us) ls (omega arith) in
-    length-append (take n us) (uses_of (wires_of (drop n us) ls)) ∙ rw (a, r)
-
 module _ (vn : List ℕ) (vf : List Float) (en : List ℕ) (ef : List Float) (us ls : List ℕ) (v e w i : ℕ) (cs : List Float) (n : ℕ) where
   -- a cause: its refusal, and nothing written
   pub call_cause : (r : Refusal) → refusal_number r ≡ one_cut_cause (lent_of vn vf en ef us ls v e w) i cs n

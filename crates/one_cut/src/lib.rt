@@ -32,7 +32,7 @@ fn float_at(floats: &[f64], i: usize) -> f64
     floats.get(i).copied().unwrap_or(f64::NAN)
 }
 
-// Causes 1 to 5, over all that is lent.
+// Causes 1 to 5, over all that is lent, as the call has it: the definition `lent` of the contracts here is of tables that are to be written.
 fn one_cut_cause(
     vertices: &TableMut<Vertex>,
     edges: &TableMut<Edge>,
@@ -70,7 +70,7 @@ fn judge(
 // ---- the wires
 
 // The wires are mended in place after edge i of `edges` is cut, by the map of `replace_edges` where just that edge is cut. It is made in a table
-// of N entries, of numbers for the reason given at `mending::replace_use`. `room` is how many cuts the tables of the shell have room for.
+// of N entries. `room` is how many cuts the tables of the shell have room for.
 fn mend_within<const N: usize>(
     wires: &mut WiresMut,
     edges: usize,
@@ -84,12 +84,12 @@ fn mend_within<const N: usize>(
         InPlace mended (leb 1 room) w.uses.now w.lengths.now wires.new.uses.now wires.new.lengths.now result }
     ensures same { SameWires wires.old wires.new }
 {
-    let mut added = [0u32; N];
-    added[i] = edges as u32;
+    let mut added = [None; N];
+    added[i] = Some(edges as u32);
     mending::mend_wires(wires, &added[..edges], 1 <= room)
 }
 
-// The same by a table that is large enough: few edges have a small one, since to zero it takes time.
+// The same by a table that is large enough: few edges have a small one, since to fill it takes time.
 fn mend_cut(wires: &mut WiresMut, edges: usize, i: usize, room: usize) -> Result<usize, NoRoom>
     requires table { (i < edges) × (edges ≤ 4096) }
     requires wires_value { wires_cause edges wires.old.uses.now wires.old.lengths.now wires.old.count ≡ 0 }

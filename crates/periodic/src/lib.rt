@@ -12,7 +12,7 @@ ghost use Rattle.periodic.specs.Copies.{first_shift, later_shifts, shifts_of, sh
 
 use compress::{Checked, Refusal, Uv};
 
-// Of a and b the one with the smaller measure; a on a tie.
+// Of a and b the one with the smaller measure; a on a tie. Not `min_by_key` over an order of all floats: the definition goes by `<`.
 pub fn smaller<A: Copy, F: Fn(A) -> f64>(measure: F, a: A, b: A) -> A
     requires { F.IsAlwaysCallable measure }
     ensures { (f : A → Float) → ((x : A) (m : _) → F.post measure x m → m ≡ f x) → result ≡ smaller f a b }
@@ -73,6 +73,7 @@ fn period_cause(period: Option<f64>) -> Checked
     period.map_or(Ok(()), checks::period)
 }
 
+// The arguments here and in the nearest copy are those of the call, in its order: a struct would be made in one place, for two functions.
 fn unwrap_cause(u: f64, u0: f64, period: Option<f64>) -> Checked
     ensures { cause_of result ≡ unwrap_cause u u0 period }
 {
@@ -105,7 +106,7 @@ fn shift(q: Uv, du: f64, dv: f64) -> Uv
 fn closer(p: Uv, a: Uv, b: Uv) -> Uv
     ensures { result ≡ smaller (from p) a b }
 {
-    smaller(|c: Uv| floats::distance2_uv(p.u, p.v, c.u, c.v), a, b)
+    smaller(|c: Uv| floats::distance2_uv(p, c), a, b)
 }
 
 fn first_shift(period: Option<f64>) -> f64

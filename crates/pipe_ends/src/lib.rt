@@ -7,6 +7,7 @@ ghost use Rattle.pipe_ends.specs.Steps.{ends_said, divisor_said, Answered};
 
 use nearest::Ends;
 use pipe_shell::{Shell, Stop};
+use rows::tables::Tables;
 use std::io;
 use wire_kinds::LentEnds;
 
@@ -43,9 +44,11 @@ pub fn nearest_ends(rt: &impl Print, s: &Shell) -> Result<Ends, Stop>
 {
     print!(rt; "3. nearest ends:")?;
     let (first, second) = s.wires.rims();
-    let vertices = s.vertices.table();
-    let edges = s.edges.table();
-    let found = correction::nearest_correction(&vertices, &edges, &first, &second, 0)?;
+    let tables = Tables {
+        vertices: s.vertices.table(),
+        edges: s.edges.table(),
+    };
+    let found = correction::nearest_correction(&tables, &first, &second, 0)?;
     let ends = found.ok_or(Stop::NoResult)?;
     write_ends(rt, ends)?;
     Ok(ends)
@@ -56,9 +59,11 @@ pub fn search(rt: &impl Print, s: &Shell) -> Result<Ends, Stop>
     ensures { IfOk result (λ ends. Answered (divisor_said s.now) ends) }
 {
     print!(rt; "6. non-simple search:")?;
-    let vertices = s.vertices.table();
-    let edges = s.edges.table();
-    let found = non_simple::find_non_simple_wire_divisor(&vertices, &edges, &s.wires.lent())?;
+    let tables = Tables {
+        vertices: s.vertices.table(),
+        edges: s.edges.table(),
+    };
+    let found = non_simple::find_non_simple_wire_divisor(&tables, &s.wires.lent())?;
     let ends = found.ok_or(Stop::NoResult)?;
     write_ends(rt, ends)?;
     Ok(ends)

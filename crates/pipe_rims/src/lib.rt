@@ -11,6 +11,7 @@ use rows::tables::TableMut;
 
 // Cuts the rims; a host evaluates the points of the new vertices.
 // The edges and wires to write are put together here: after a loan by a method nothing is known of what the shell holds, and `passed` fails.
+// The words for what a loan leaves are for a reference or a pair of them, and not for a struct.
 pub fn cut_rims(rt: &impl Print, s: &Shell) -> Result<Shell, Stop>
     ensures same { IfOk result (λ left. left.wires.count ≡ s.now.wires.count) }
     ensures passed { IfOk result (λ left. Passed (pass_of s.now) left) }

@@ -22,6 +22,7 @@ fn seam_points(d: Ends) -> Result<[f64; 4], Refusal> {
 
 // Splits the face along the seam between two vertices, with so many of its wires, from the first on, to be rebuilt.
 // The table to write is put together here: after a loan by `table_mut` nothing is known of what the shell's table holds, and `outcome` fails.
+// The words for what a loan leaves are for a reference or a pair of them, and not for a struct.
 fn split_along(rt: &impl Print, s: &Shell, d: Ends, rebuilt: usize) -> Result<Shell, Stop>
     ensures same { IfOk result (λ left. left.vertices ≡ s.now.vertices) }
     ensures outcome { IfOk result (λ left. SplitAlong s.now d rebuilt left) }

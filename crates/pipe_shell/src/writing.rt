@@ -15,7 +15,7 @@ pub fn write_stop(rt: &impl Print, stop: Stop) -> io::Result<()> {
     }
 }
 
-// The edges from a number on, each with its two vertices, as 5 = (2, 3).
+// The edges from a number on, each with its two vertices, as 5 = (2, 3). By cell: a row has no record with a Display.
 fn write_edges(rt: &impl Print, edges: &Edges, from: usize) -> io::Result<()> {
     print!(rt; "   edges")?;
     for (e, row) in edges

@@ -1,25 +1,20 @@
--- Given vertices told in one pass: the test holds just where no row has a cause, 7 included.
+-- Given vertices without a cause, 7 included; and a table judged by both causes of its rows.
 -- Assumes nothing.
-use mathlib.Core.Path.{◌≡◌, sym, ◌∙◌}
+use mathlib.Core.Path.{◌≡◌, refl, ap, sym, ◌∙◌}
 use mathlib.Core.Bool.{Bool, true, false}
 use mathlib.Core.List.{List}
-use Prim.Native.Nat.{ℕ, ◌+◌, ◌*◌, ◌<◌}
+use Prim.Native.Nat.{ℕ, zero, suc, ◌+◌, ◌*◌}
 use native.Mathlib.Omega.{arith}
-use borrow.Author.Tests.{eqb-false, ltb-false, leb-true, le-leb, le-ltb}
-use lib.Dec.{eqb, leb, ltb}
+use borrow.Author.Tests.{eqb-false, ltb-false}
+use lib.Dec.{eqb, ltb, eqb-suc-zero}
 use lib.ListN.{length, get_or}
-use Rattle.std.specs.Bool.{MatchBool}
-use Rattle.std.specs.List.{range_with_len, AllWithin, HoldsAt}
-use Rattle.std.proofs.lemmas.List.FromFn.{length-range_with_len, get_or-range_with_len}
-use mathlib.Core.Logic.{◌≢◌}
 use lib.Ieee.{Float, nan}
+use Rattle.compress.specs.Records.{pick}
 use Rattle.compress.specs.Rows.{vertex_of}
-use Rattle.compress.specs.Shell.{rows_fit}
-use Rattle.checks.specs.Causes.{lower_of, lowest_of, kind_cause, point_cause, vertex_cause, vertex_row_cause, pending_row_cause, vertices_cause, pending_cause}
-use Rattle.checks.proofs.Accepted.{not_when, vertices_accepted}
-use Rattle.checks.proofs.Lowest.{lower_first, lower_last, lower_none, lowest_none}
-use Rattle.checks.proofs.Sound.{no, both, lower_zero, lowest_all}
-use Rattle.tables.proofs.Told.{tells_no, tells_yes}
+use Rattle.checks.specs.Causes.{lower_of, lowest_of, kind_cause, point_cause, vertex_cause, vertex_row_cause, pending_row_cause, table_cause, edges_cause, vertices_cause, pending_cause}
+use Rattle.checks.proofs.Accepted.{not_when}
+use Rattle.checks.proofs.Lowest.{lower_first, lower_last, lower_none, lower_swap, lower_join, lowest_both}
+use Rattle.points.specs.Tables.{tables_cause}
 
 module _ (ns : List ℕ) (fs : List Float) (i : ℕ) where
   -- a row without a cause is that of a given vertex
@@ -38,39 +33,31 @@ module _ (ns : List ℕ) (fs : List Float) (i : ℕ) where
   unfolding vertex_row_cause vertex_cause vertex_of
   row_cause k = rw k (lower_last _ ∙ lower_first _ ∙ lower_first _)
 
--- What `all` tells of n rows with two causes each: a row that passes has neither, and one that does not has one.
-pub rows_told : (f g : ℕ → ℕ) (n : ℕ) (r : Bool)
-    → MatchBool r (AllWithin (λ i. lower_of (f i) (g i) ≡ 0) (range_with_len 0 n) 0 (length (range_with_len 0 n)))
-    ((k : ℕ) × (k < length (range_with_len 0 n)) × HoldsAt (λ i. lower_of (f i) (g i) ≢ 0) (range_with_len 0 n) k)
-    → r ≡ eqb (lower_of (lowest_of f n) (lowest_of g n)) 0
-rows_told f g n true h =
-    let each : (i : ℕ) → i < n → (f i ≡ 0) × (g i ≡ 0) = λ i p.
-    let q : get_or (range_with_len 0 n) i 0 ≡ i = get_or-range_with_len 0 n i 0 p ∙ omega arith in
-    lower_none (f i) (g i) (rw q at (h i 0 (omega arith) (rw (length-range_with_len 0 n) p))) in
-    tells_yes (lower_of (lowest_of f n) (lowest_of g n))
-    (lower_zero (lowest_of f n) (lowest_of g n) (lowest_all f n (λ i p. (each i p).0)) (lowest_all g n (λ i p. (each i p).1)))
-rows_told f g n false (k, lt, h) =
-    let p : k < n = rw (length-range_with_len 0 n) at lt in
-    let q : get_or (range_with_len 0 n) k 0 ≡ k = get_or-range_with_len 0 n k 0 p ∙ omega arith in
-    tells_no (lower_of (lowest_of f n) (lowest_of g n)) (λ z.
-    let a = lower_none (lowest_of f n) (lowest_of g n) z in
-    (rw q at (h 0)) (lower_zero (f k) (g k) (lowest_none f n k a.0 p) (lowest_none g n k a.1 p)))
+one_first : (y : ℕ) → lower_of 1 y ≡ 1
+unfolding lower_of
+one_first zero = refl
+one_first (suc y) = rw eqb-suc-zero (omega arith)
 
--- a table that does not lie in its slices has the cause 1
-pub not_lying : (ns : List ℕ) (fs : List Float) (n : ℕ) → rows_fit 3 7 ns fs n ≡ false → false ≡ eqb (lower_of (vertices_cause ns fs n) (pending_cause ns n)) 0
-not_lying ns fs n q =
-    tells_no (lower_of (vertices_cause ns fs n) (pending_cause ns n)) (λ z.
-    let A = vertices_accepted ns fs n (lower_none (vertices_cause ns fs n) (pending_cause ns n) z).0 in
-    no (sym q ∙ rw (le-leb n 4096 A.below, le-leb (n * 3) (length ns) A.numbers, le-leb (n * 7) (length fs) A.floats)))
+by_tests : (a b c : Bool) (x y z : ℕ) → z ≡ lower_of x y
+    → pick a 1 (pick b 1 (pick c 1 z)) ≡ lower_of (pick a 1 (pick b 1 (pick c 1 x))) (pick a 0 (pick b 0 y))
+by_tests true b c x y z e = sym (one_first 0)
+by_tests false true c x y z e = sym (one_first 0)
+by_tests false false true x y z e = sym (one_first y)
+by_tests false false false x y z e = e
 
--- a table that lies there, from what `all` tells of its rows
-pub table_told : (ns : List ℕ) (fs : List Float) (n : ℕ) (r : Bool) → rows_fit 3 7 ns fs n ≡ true
-    → MatchBool r (AllWithin (λ i. lower_of (vertex_row_cause ns fs i) (pending_row_cause ns i) ≡ 0) (range_with_len 0 n) 0 (length (range_with_len 0 n)))
-    ((k : ℕ) × (k < length (range_with_len 0 n)) × HoldsAt (λ i. lower_of (vertex_row_cause ns fs i) (pending_row_cause ns i) ≢ 0) (range_with_len 0 n) k)
-    → r ≡ eqb (lower_of (vertices_cause ns fs n) (pending_cause ns n)) 0
+-- a table by both causes of its rows has the lower of both causes of the table: where it does not lie in its slices, 1
+table_told : (ns : List ℕ) (fs : List Float) (n : ℕ)
+    → table_cause 3 7 (λ i. lower_of (vertex_row_cause ns fs i) (pending_row_cause ns i)) ns fs n ≡ lower_of (vertices_cause ns fs n) (pending_cause ns n)
 unfolding vertices_cause pending_cause
-table_told ns fs n r q h =
-    let p = both (leb n 4096) _ q in
-    let t = both (leb (n * 3) (length ns)) (leb (n * 7) (length fs)) p.1 in
-    rw (le-ltb 4096 n (leb-true n 4096 p.0), le-ltb (length ns) (n * 3) (leb-true (n * 3) (length ns) t.0), le-ltb (length fs) (n * 7) (leb-true (n * 7) (length fs) t.1))
-    (rows_told (vertex_row_cause ns fs) (pending_row_cause ns) n r h)
+table_told ns fs n =
+    by_tests (ltb 4096 n) (ltb (length ns) (n * 3)) (ltb (length fs) (n * 7)) (lowest_of (vertex_row_cause ns fs) n) (lowest_of (pending_row_cause ns) n) _
+    (lowest_both (vertex_row_cause ns fs) (pending_row_cause ns) n)
+
+-- the causes of both tables, from what the steps gave
+pub causes_told : (vn : List ℕ) (vf : List Float) (en : List ℕ) (ef : List Float) (v e : ℕ) {a b r : ℕ}
+    → a ≡ table_cause 3 7 (λ i. lower_of (vertex_row_cause vn vf i) (pending_row_cause vn i)) vn vf v → b ≡ edges_cause v en ef e → r ≡ lower_of a b
+    → r ≡ tables_cause vn vf en ef v e
+unfolding tables_cause
+causes_told vn vf en ef v e p q h =
+    h ∙ rw (p, q, table_told vn vf v) (lower_join (vertices_cause vn vf v) (pending_cause vn v) (edges_cause v en ef e)
+    ∙ ap (lower_of (vertices_cause vn vf v)) (lower_swap (pending_cause vn v) (edges_cause v en ef e)))

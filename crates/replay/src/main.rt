@@ -6,6 +6,7 @@
 // list, of altered records: in each, one word of what the call answered and left is another, so none of them is the same.
 #![tactic(auto)]
 
+ghost use Rattle.std.specs.Prelude.{◌≡◌, OnErr};
 ghost use Rattle.stored.specs.Compared.{Compares};
 
 use replay_numbers::sorting;
@@ -13,8 +14,8 @@ use replay_tally::{Part, Run};
 use stored::{Damaged, Reader};
 
 // Replays the call with this number. A list with any other number is damaged.
-// The numbers are matched where they are read, since each arm reads another record: an enum of the calls would only be a second list, a table
-// of functions would be pointers, and a closure each is no plainer.
+// The numbers are matched where they are read, since each arm reads another record. The names in `replay_tally` are in this order: an enum of the calls
+// with TryFrom and Display would be four lists of ten in place of the two. No table of functions: none may take a `Reader`, which holds a reference.
 fn replay(list: &mut Reader<'_>, number: u64) -> Result<(), Damaged>
     ensures compares { Compares list.old list.new }
 {
@@ -33,8 +34,10 @@ fn replay(list: &mut Reader<'_>, number: u64) -> Result<(), Damaged>
     }
 }
 
-// Reads on in the list, and replays the next record.
-fn step(list: &mut Reader<'_>, run: &mut Run) -> Result<(), Damaged> {
+// Reads on in the list, and replays the next record. Where the list is damaged nothing is counted.
+fn step(list: &mut Reader<'_>, run: &mut Run) -> Result<(), Damaged>
+    ensures { OnErr result (run.new ≡ run.old) }
+{
     list.refill()?;
     let number = list.next()?;
     if number == 0 {

@@ -7,6 +7,7 @@ use compress::Refusal;
 use nearest::Ends;
 use records::{Counts, Shell};
 use rows::lent::Stretch;
+use rows::tables::Tables;
 use stored::{Damaged, Reader};
 use stored_cells::Cell;
 use stored_records::answers::Answer;
@@ -24,15 +25,19 @@ fn answer_of(found: Result<Option<Ends>, Refusal>) -> Answer<u32, 2> {
     Answer::from(found.map(|found| found.map(|ends| [ends.v0, ends.v1])))
 }
 
+// The tables of a shell, with the counts that a call tells of them.
+fn tables(c: Counts, s: &Shell) -> Tables<'_> {
+    Tables {
+        vertices: s.vertices.lent(c.vertices),
+        edges: s.edges.lent(c.edges),
+    }
+}
+
 // ---- find_non_simple_wire_divisor
 
 // Makes the call.
 fn divisor(c: Counts, wires: usize, s: &Shell) -> Answer<u32, 2> {
-    answer_of(non_simple::find_non_simple_wire_divisor(
-        &s.vertices.lent(c.vertices),
-        &s.edges.lent(c.edges),
-        &s.wires.lent(wires),
-    ))
+    answer_of(non_simple::find_non_simple_wire_divisor(&tables(c, s), &s.wires.lent(wires)))
 }
 
 // Replays find_non_simple_wire_divisor.
@@ -68,13 +73,7 @@ fn correction(c: Counts, a: Start, s: &Shell) -> Answer<u32, 2> {
         uses: s.wires.second.cells(),
         count: a.second,
     };
-    answer_of(correction::nearest_correction(
-        &s.vertices.lent(c.vertices),
-        &s.edges.lent(c.edges),
-        &first,
-        &second,
-        a.v0,
-    ))
+    answer_of(correction::nearest_correction(&tables(c, s), &first, &second, a.v0))
 }
 
 // Replays nearest_correction.

@@ -1,3 +1,4 @@
 pub mod Same
 pub mod Each
 pub mod Room
+pub mod Totals

@@ -42,11 +42,7 @@ fn sum_of(lengths: &[u32]) -> usize
     ensures value { result ≡ total lengths.now }
     ensures bound { result ≤ length lengths.now * 4294967296 }
 {
-    let mut sum: usize = 0;
-    for &n in lengths {
-        sum += n as usize;
-    }
-    sum
+    lengths.iter().map(|n| *n as usize).sum()
 }
 
 impl<'a> Stretch<'a> {

@@ -25,6 +25,7 @@ fn kind_of(c: Curve) -> u32
     }
 }
 
+// The number of either case, which no derive gives.
 fn number_of(c: Curve) -> u32
     ensures { result ≡ number_of c }
 {
@@ -55,7 +56,7 @@ fn put_curve(floats: &mut [f64], j: usize, c: Curve)
     }
 }
 
-// The edge e is written to row i.
+// The edge e is written to row i. Beside the trait `tables::Row`, as `put_vertex` is: a public name that stood before it, and its proof with it.
 pub fn put_edge(numbers: &mut [u32], floats: &mut [f64], i: usize, e: Edge)
     requires { HasRow 4 6 numbers.old floats.old i }
     ensures numbers_after { numbers.new ≡ put edge_number_layout numbers.old i e }
@@ -128,7 +129,7 @@ pub fn uses_fit(uses: &[u32], n: usize) -> bool
 
 // ---- runs of numbers
 
-// The numbers of `from` are written over the front of `to`.
+// The numbers of `from` are written over the front of `to`: a name for std's two calls, with the clause that its callers cite.
 pub fn copy(from: &[u32], to: &mut [u32])
     requires { length from.now ≤ length to.old }
     ensures { to.new ≡ from.now ++ drop (length from.now) to.old }

@@ -101,7 +101,9 @@ impl Row for Vertex {
     ghost filled = { Prim.search rules };
 }
 
-// A table, to be read. Nothing is checked of it here.
+// A table, to be read. Nothing is checked of it here. The count stays beside the slices in this and in the other lent structs: where it is above what
+// was lent, that is cause 1 (the C interface). Where a row is read or written its caller answers for `HasRow`, and no ghost field does: a table is
+// made before its count is judged, and rows past the count are written.
 #[derive(Clone, Copy)]
 pub struct Table<'a, R> {
     pub numbers: &'a [u32],
@@ -169,8 +171,8 @@ pub struct Tables<'a> {
     pub edges: Table<'a, Edge>,
 }
 
-// A table, to be written. A shell is two of these and wires, and no struct of the three: tried with one lifetime and with three, and at the end of
-// the loan the check did not know what the slices hold.
+// A table, to be written. Two types for what is read and what is written, here and of wires, as std's iterators have them. A shell is two of these and
+// wires, and no struct of the three: tried with one lifetime and with three, and at the end of the loan the check did not know what the slices hold.
 #[derive(Drop)]
 pub struct TableMut<'a, R> {
     pub numbers: &'a mut [u32],

@@ -31,45 +31,57 @@ pub struct Divisor<'a> {
     pub count: usize,
 }
 
-// The vertex in row i.
-fn stop_at(divisor: &Divisor, i: usize) -> Stop
-    requires { (i < length divisor.now.vertices.now) × (i * 2 + 2 ≤ length divisor.now.points.now) }
-    ensures { result ≡ stop_at divisor.now.vertices.now divisor.now.points.now i }
-{
-    let points = divisor.points;
-    let a = i * 2;
-    let point = Uv {
-        u: points[a],
-        v: points[a + 1],
-    };
-    Stop {
-        vertex: divisor.vertices[i],
-        point,
+impl Divisor<'_> {
+    // The vertex in row i.
+    fn stop_at(&self, i: usize) -> Stop
+        requires { (i < length self.now.vertices.now) × (i * 2 + 2 ≤ length self.now.points.now) }
+        ensures { result ≡ stop_at self.now.vertices.now self.now.points.now i }
+    {
+        Stop {
+            vertex: self.vertices[i],
+            point: Uv::read(self.points, i * 2),
+        }
     }
-}
 
-#[tactic(auto, unfolding(crate::specs::Stops::stop_cause))]
-fn stop_cause(vertices: usize, divisor: &Divisor, i: usize) -> Checked
-    requires { (i < length divisor.now.vertices.now) × (i * 2 + 2 ≤ length divisor.now.points.now) }
-    ensures { cause_of result ≡ stop_cause vertices divisor.now.vertices.now divisor.now.points.now i }
-{
-    let stop = stop_at(divisor, i);
-    checks::lower(
-        checks::vertex_number(vertices, stop.vertex),
-        checks::uv(stop.point),
-    )
-}
-
-// Causes 1, 2 and 4 of the vertices on the divisor.
-#[tactic(auto, using(std::proofs::lemmas::Bool::Decides::nat_tests), unfolding(crate::specs::Stops::stops_cause))]
-pub fn stops_cause(vertices: usize, divisor: &Divisor) -> Checked
-    ensures { cause_of result ≡ stops_cause vertices divisor.now.vertices.now divisor.now.points.now divisor.now.count }
-{
-    let count = divisor.count;
-    if divisor.vertices.len() < count || divisor.points.len() / 2 < count {
-        return Err(Refusal::Malformed);
+    #[tactic(auto, unfolding(crate::specs::Stops::stop_cause))]
+    fn stop_cause(&self, vertices: usize, i: usize) -> Checked
+        requires { (i < length self.now.vertices.now) × (i * 2 + 2 ≤ length self.now.points.now) }
+        ensures { cause_of result ≡ stop_cause vertices self.now.vertices.now self.now.points.now i }
+    {
+        let stop = self.stop_at(i);
+        checks::lower(
+            checks::vertex_number(vertices, stop.vertex),
+            checks::uv(stop.point),
+        )
     }
-    checks::lowest_cause(count, |i| stop_cause(vertices, divisor, i))
+
+    // Causes 1, 2 and 4 of the vertices on the divisor.
+    #[tactic(auto, using(std::proofs::lemmas::Bool::Decides::nat_tests), unfolding(crate::specs::Stops::stops_cause))]
+    pub fn stops_cause(&self, vertices: usize) -> Checked
+        ensures { cause_of result ≡ stops_cause vertices self.now.vertices.now self.now.points.now self.now.count }
+    {
+        let count = self.count;
+        if self.vertices.len() < count || self.points.len() / 2 < count {
+            return Err(Refusal::Malformed);
+        }
+        checks::lowest_cause(count, |i| self.stop_cause(vertices, i))
+    }
+
+    // Cause 10. Few vertices have a small table, since to clear it takes time.
+    pub fn repeat_cause(&self, vertices: usize) -> Checked
+        requires lent { self.now.count ≤ length self.now.vertices.now }
+        requires known { (k : ℕ) → k < self.now.count → get_or self.now.vertices.now k 0 < vertices }
+        requires few { vertices ≤ 4096 }
+        ensures { cause_of result ≡ repeat_cause self.now.vertices.now self.now.count }
+    {
+        let stops = &self.vertices[..self.count];
+        let repeats = if vertices <= 64 {
+            repeats_in::<64>(stops)
+        } else {
+            repeats_in::<4096>(stops)
+        };
+        checks::cause_when(repeats, Refusal::RepeatedVertex)
+    }
 }
 
 // Cause 9.
@@ -96,22 +108,6 @@ fn repeats_in<const N: usize>(divisor: &[u32]) -> bool
         seen[v] = true;
     }
     false
-}
-
-// Cause 10. Few vertices have a small table, since to clear it takes time.
-pub fn repeat_cause(divisor: &Divisor, vertices: usize) -> Checked
-    requires lent { divisor.now.count ≤ length divisor.now.vertices.now }
-    requires known { (k : ℕ) → k < divisor.now.count → get_or divisor.now.vertices.now k 0 < vertices }
-    requires few { vertices ≤ 4096 }
-    ensures { cause_of result ≡ repeat_cause divisor.now.vertices.now divisor.now.count }
-{
-    let stops = &divisor.vertices[..divisor.count];
-    let repeats = if vertices <= 64 {
-        repeats_in::<64>(stops)
-    } else {
-        repeats_in::<4096>(stops)
-    };
-    checks::cause_when(repeats, Refusal::RepeatedVertex)
 }
 
 // ---- the new edges
@@ -148,8 +144,8 @@ pub fn create_new_edges(edges: &mut TableMut<Edge>, divisor: &Divisor, surface: 
 {
     let first = edges.count;
     for i in 0..divisor.count / 2 {
-        let a = stop_at(divisor, i * 2);
-        let b = stop_at(divisor, i * 2 + 1);
+        let a = divisor.stop_at(i * 2);
+        let b = divisor.stop_at(i * 2 + 1);
         edges.put(first + i, seam_of(surface, a, b));
     }
 }

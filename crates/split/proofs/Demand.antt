@@ -12,12 +12,13 @@ use lib.Seq.{take-append_seam, drop-append_seam, take_at}
 use Rattle.compress.specs.Records.{pick}
 use Rattle.compress.specs.Said.{Said, result, refused}
 use Rattle.compress.specs.Wires.{wires_of, uses_of, lengths_of, over}
+use Rattle.compress.proofs.Wires.{length_lengths}
 use Rattle.walk.specs.Walk.{Answer, wires}
 use Rattle.lists.specs.Members.{count}
 use Rattle.walk.specs.Walk as walk
 use Rattle.walk.specs.Claim.{Claimed}
 use Rattle.lists.proofs.Counts.{bit, count_cons, count_append}
-use Rattle.walk.proofs.Storing.{uses_joined, length_lengths}
+use Rattle.walk.proofs.Storing.{uses_joined}
 use Rattle.walk.proofs.Tabled.{table_theorem, table_balanced}
 use Rattle.marks.specs.Marks.{new_uses}
 use Rattle.split.specs.declared.Boundaries.{Boundaries}

@@ -62,8 +62,8 @@ fn split_checked(
 }
 
 // `split_boundaries_by_divisor`, from `duplicated_edges` on: the new edges are appended to the edge table, and the wires that the walk
-// builds go to `uses` and `lengths`. A refusal changes nothing lent. These two are slices and no WiresMut, here and in the walk: how many wires
-// they hold is not known before the call.
+// builds go to `uses` and `lengths`. A refusal changes nothing lent. These two are slices and no struct, here and in the walk: how many wires
+// they hold is not known before the call, and a struct of two slices would need a clause in five functions that it keeps them.
 pub fn split_boundaries_by_divisor(
     vertices: usize,
     edges: &mut TableMut<Edge>,
@@ -86,8 +86,7 @@ pub fn split_boundaries_by_divisor(
     let m = rebuilt.total_uses();
     let stops = Divisor {
         vertices: &divisor.vertices[..divisor.count],
-        points: divisor.points,
-        count: divisor.count,
+        ..*divisor
     };
     split_checked(
         edges,

@@ -1,7 +1,7 @@
 -- What a split without a cause before the walk is lent: every count within its bounds and what was lent, every number known, and room.
 -- Assumes nothing.
 use mathlib.Core.Path.{◌≡◌, refl, ◌∙◌}
-use mathlib.Core.Bool.{Bool, true, false, not}
+use mathlib.Core.Bool.{true, false, not}
 use mathlib.Core.List.{List, []}
 use Prim.Native.Nat.{ℕ, zero, suc, ◌+◌, ◌*◌, ◌/◌, ◌%◌, ◌≤◌, ◌<◌}
 use native.Mathlib.Omega.{arith}
@@ -10,12 +10,11 @@ use lib.Dec.{eqb, leb, ltb}
 use lib.Ieee.{Float}
 use lib.ListN.{length, get_or, take}
 use Rattle.compress.specs.declared.Refusal.{Refusal}
-use Rattle.compress.specs.Records.{pick}
 use Rattle.compress.specs.Refusals.{refusal_number}
 use Rattle.compress.specs.Shell.{edges_fit}
 use Rattle.compress.proofs.Refused.{number_above}
 use Rattle.checks.specs.Causes.{when, lowest_of, edges_cause, uses_cause}
-use Rattle.checks.proofs.Accepted.{EdgesAccepted, passed, not_when, edges_accepted, uses_in}
+use Rattle.checks.proofs.Accepted.{EdgesAccepted, passed_by, passed, not_when, edges_accepted, uses_in}
 use Rattle.checks.proofs.Lowest.{lower_none, lowest_none}
 use Rattle.seams.specs.Seams.{repeats_after}
 use Rattle.split_causes.specs.Causes.{LentSplit, face_total, rebuilt_total, pairs, split_wires_cause, split_input_cause, split_count, room_cause, split_room_cause, then_cause, split_cause}
@@ -24,11 +23,6 @@ use Rattle.seams.specs.Stops.{stop_cause, stops_cause, odd_cause, repeat_cause}
 pub then_none : (a b : ℕ) → then_cause a b ≡ 0 → (a ≡ 0) × (b ≡ 0)
 then_none zero b e = (refl, e)
 then_none (suc a) b e = absurd (omega arith)
-
--- a test with cause 6 did not hold, and what follows it has none
-roomy : (b : Bool) (n : ℕ) → pick b 6 n ≡ 0 → (b ≡ false) × (n ≡ 0)
-roomy true n e = absurd (omega arith)
-roomy false n e = (refl, e)
 
 pub record SplitAccepted (l : LentSplit) : Type 0 where
   pub vertices : l.vertices ≤ 4096
@@ -92,9 +86,9 @@ pub record SplitRoom (l : LentSplit) : Type 0 where
 pub room : (l : LentSplit) → split_room_cause l ≡ 0 → SplitRoom l
 unfolding room_cause
 room l q =
-    let a = roomy (ltb 1024 (split_count l)) _ q in
-    let b = roomy (ltb (length l.buffers.us) (split_count l)) _ a.1 in
-    let c = roomy (ltb (length l.buffers.ls) (split_count l)) _ b.1 in
+    let a = passed_by 5 (ltb 1024 (split_count l)) _ q in
+    let b = passed_by 5 (ltb (length l.buffers.us) (split_count l)) _ a.1 in
+    let c = passed_by 5 (ltb (length l.buffers.ls) (split_count l)) _ b.1 in
     record {
       few = ltb-false 1024 (split_count l) a.0;
       uses = ltb-false (length l.buffers.us) (split_count l) b.0;

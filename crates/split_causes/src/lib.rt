@@ -50,7 +50,7 @@ fn split_input_cause(
     let v = checks::count(4096, vertices);
     let e = tables::edges(vertices, edges);
     let w = split_wires_cause(edges.count, face, rebuilt);
-    let s = seams::stops_cause(vertices, divisor);
+    let s = divisor.stops_cause(vertices);
     checks::lower(v, checks::lower(e, checks::lower(w, s)))
 }
 
@@ -73,5 +73,5 @@ pub fn split_cause(
     let n = rebuilt.total_uses() + pairs * 2;
     room_cause(edges, uses, lengths, n, edges.count + pairs)?;
     seams::odd_cause(divisor.count)?;
-    seams::repeat_cause(divisor, vertices)
+    divisor.repeat_cause(vertices)
 }

@@ -7,6 +7,7 @@ use native.Mathlib.Omega.{arith}
 use lib.Ieee.{Float}
 use lib.ListN.{length, get_or, get_or-append}
 use lib.Seq.{get_or-append-add}
+use Rattle.std.specs.Prelude.{Option, Some, None}
 use Rattle.compress.specs.declared.Edge.{Edge}
 use Rattle.compress.specs.Records.{closed}
 use Rattle.compress.specs.Shell.{Shell, load}
@@ -21,8 +22,8 @@ use Rattle.cutting.proofs.Keeping.{keeps, lent_known}
 -- Edge k of es, where n is the next free vertex number and m the next free edge number: it stands as it did, or it has its halves, and its
 -- second half is number j among the new ones.
 pub data Fate (d : Edge) (es : List Edge) (n m k : ℕ) : Type 0 where
-  stays : get_or (added_to m es) k 0 ≡ 0 → get_or (kept_edges n es) k d ≡ get_or es k d → Fate d es n m k
-  halved : (j : ℕ) → get_or (added_to m es) k 0 ≡ m + j
+  stays : get_or (added_to m es) k None ≡ None → get_or (kept_edges n es) k d ≡ get_or es k d → Fate d es n m k
+  halved : (j : ℕ) → get_or (added_to m es) k None ≡ Some (m + j)
       → get_or (kept_edges n es) k d ≡ (halves_of (get_or es k d) (middle_of (get_or es k d).curve) (n + j)).old
       → get_or (new_edges n es) j d ≡ (halves_of (get_or es k d) (middle_of (get_or es k d).curve) (n + j)).new → Fate d es n m k
 
@@ -30,7 +31,7 @@ module _ (d e : Edge) (es : List Edge) (n m : ℕ) where
   fate_here : (b : Bool) → b ≡ closed e → Fate d (e ∷ es) n m 0
   unfolding added_to kept_edges new_edges
   fate_here true q =
-      let p : m ≡ m + 0 = omega arith in
+      let p : ◌≡◌ {A = Option ℕ} (Some m) (Some (m + 0)) = ap Some (omega arith) in
       let r : n + 0 ≡ n = omega arith in
       halved 0 (rw (← q) p) (rw (← q, r)) (rw (← q, r))
   fate_here false q = stays (rw (← q)) (rw (← q))
@@ -39,7 +40,7 @@ module _ (d e : Edge) (es : List Edge) (n m : ℕ) where
   unfolding added_to kept_edges new_edges
   fate_there true k q (stays p r) = stays (rw (← q) p) (rw (← q) r)
   fate_there true k q (halved j p r t) =
-      let x : m + 1 + j ≡ m + suc j = omega arith in
+      let x : ◌≡◌ {A = Option ℕ} (Some (m + 1 + j)) (Some (m + suc j)) = ap Some (omega arith) in
       let y : n + 1 + j ≡ n + suc j = omega arith in
       halved (suc j) (rw (← q) (p ∙ x)) (rw (← q, ← y) r) (rw (← q, ← y) t)
   fate_there false k q (stays p r) = stays (rw (← q) p) (rw (← q) r)
@@ -64,18 +65,20 @@ module _ (d : Edge) (es : List Edge) (n : ℕ) where
   after_new : (j : ℕ) → after (length es + j) ≡ get_or (new_edges n es) j d
   after_new j = rw (← length_kept es n) (get_or-append-add (kept_edges n es) (new_edges n es) j d)
 
-  fate_kept : (k : ℕ) → k < length es → Fate d es n (length es) k → get_or (added_to (length es) es) k 0 ≡ 0
+  fate_kept : (k : ℕ) → k < length es → Fate d es n (length es) k → get_or (added_to (length es) es) k None ≡ None
       → ((after k).front ≡ (get_or es k d).front) × ((after k).back ≡ (get_or es k d).back)
   fate_kept k lt (stays p r) z = let q = after_kept k lt ∙ r in (ap (λ (e : Edge). e.front) q, ap (λ (e : Edge). e.back) q)
-  fate_kept k lt (halved j p r t) z = absurd (omega (arith, p, z, lt))
+  fate_kept k lt (halved j p r t) z = let q : ◌≡◌ {A = Option ℕ} (Some (length es + j)) None = sym p ∙ z in cc
 
-  fate_cut : (k : ℕ) → k < length es → Fate d es n (length es) k → (get_or (added_to (length es) es) k 0 ≡ 0 → ⊥)
-      → ((after k).front ≡ (get_or es k d).front) × ((after k).back ≡ (after (get_or (added_to (length es) es) k 0)).front) × ((after (get_or (added_to (length es) es) k 0)).back ≡ (get_or es k d).back)
+  fate_cut : (k m : ℕ) → k < length es → Fate d es n (length es) k → get_or (added_to (length es) es) k None ≡ Some m
+      → ((after k).front ≡ (get_or es k d).front) × ((after k).back ≡ (after m).front) × ((after m).back ≡ (get_or es k d).back)
   unfolding halves_of
-  fate_cut k lt (stays p r) ne = absurd (ne p)
-  fate_cut k lt (halved j p r t) ne =
+  fate_cut k m lt (stays p r) z = let q : ◌≡◌ {A = Option ℕ} None (Some m) = sym p ∙ z in cc
+  fate_cut k m lt (halved j p r t) z =
+      let q : ◌≡◌ {A = Option ℕ} (Some m) (Some (length es + j)) = sym z ∙ p in
+      let is : m ≡ length es + j = cc in
       let a = after_kept k lt ∙ r in
-      let b = ap after p ∙ after_new j ∙ t in
+      let b = ap after is ∙ after_new j ∙ t in
       (ap (λ (e : Edge). e.front) a, ap (λ (e : Edge). e.back) a ∙ sym (ap (λ (e : Edge). e.front) b), ap (λ (e : Edge). e.back) b)
 
 -- connected wires stay connected in the closed-edge pass, and closed ones closed
@@ -87,7 +90,7 @@ pass_keeps d s known =
     keeps d s (split_closed_edges s) (added_to (length es) es) known
     (record {
       kept = λ i lt z. fate_kept d es n i lt (fate d es n (length es) i lt) z;
-      cut = λ i lt ne. fate_cut d es n i lt (fate d es n (length es) i lt) ne;
+      cut = λ i m lt z. fate_cut d es n i m lt (fate d es n (length es) i lt) z;
     })
     refl
 

@@ -18,19 +18,20 @@ use Rattle.compress.specs.Rows.{edge_at, vertex_at, edge_number_layout, edge_flo
 use Rattle.compress.specs.Shell.{Shell, load, vertices_fit, edges_fit}
 use Rattle.compress.specs.Wires.{wires_of}
 use Rattle.compress.proofs.Layouts.{length_rows}
-use Rattle.compress.proofs.Room.{both, vertices_room, edges_room}
+use Rattle.std.proofs.lemmas.Bool.{and_parts}
+use Rattle.compress.proofs.Room.{vertices_room, edges_room}
 use Rattle.checks.specs.Causes.{wires_cause}
 use Rattle.add_edges.specs.Add.{next, new_edge, new_vertex, kept_edges, new_edges, new_vertices, added_to}
 use Rattle.mending.specs.Replace.{replace_wires}
 use Rattle.split_closed_edges.specs.Pass.{split_closed_edges}
 use Rattle.add_edges.specs.Steps.{closed_count, Addable, Added, Marked}
 use Rattle.split_closed_edges.specs.Steps.{closed_in, uses_told, ClosedMended}
-use Rattle.mending.specs.Steps.{InPlace, count_told}
+use Rattle.mending.specs.Steps.{AreNumbers, InPlace, count_told}
 use Rattle.cutting.specs.Contract.{lent_of, leaves, input_cause}
 use Rattle.split_closed_edges.specs.Contract.{outcome_of}
 use Rattle.add_edges.proofs.Edges.{length_kept}
 use Rattle.compress.specs.declared.Refusal.TheVariants as refusal
-use Rattle.std.specs.Prelude.{Result, Ok, Err, is_ok}
+use Rattle.std.specs.Prelude.{Option, Some, None, IfSome, Result, Ok, Err, is_ok}
 use Rattle.split_closed_edges.specs.declared.Closing.{Closing}
 use Rattle.mending.specs.declared.NoRoom.{NoRoom}
 use Rattle.cutting.proofs.Outcome.{Accepted, accepted, no_cause, way_cause, vertices_stand, result_full, result_done}
@@ -64,15 +65,15 @@ count_le (e ∷ es) = step (closed e) (closed_count es) (length es) (count_le es
     step false k n h = omega arith
 
 -- the numbers of the map are small
-pub added_small : (es : List Edge) (m bound k : ℕ) → 0 < bound → m + length es ≤ bound → get_or (added_to m es) k 0 < bound
+pub added_small : (es : List Edge) (m bound k : ℕ) → m + length es ≤ bound → IfSome (get_or (added_to m es) k None) (λ a. a < bound)
 unfolding added_to
-added_small [] m bound k z h = z
-added_small (e ∷ es) m bound zero z h = here (closed e)
+added_small [] m bound k h = tt
+added_small (e ∷ es) m bound zero h = here (closed e)
   where
-    here : (b : Bool) → pick b m 0 < bound
+    here : (b : Bool) → IfSome (pick b (Some m) None) (λ a. a < bound)
     here true = omega arith
-    here false = z
-added_small (e ∷ es) m bound (suc k) z h = added_small es (next (closed e) m) bound k z (there (closed e))
+    here false = tt
+added_small (e ∷ es) m bound (suc k) h = added_small es (next (closed e) m) bound k (there (closed e))
   where
     there : (b : Bool) → next b m + length es ≤ bound
     there true = omega arith
@@ -85,7 +86,7 @@ length_added (e ∷ es) m = ap suc (length_added es (next (closed e) m))
 
 -- ---- the map and the wires
 
-module _ (en : List ℕ) (edges : ℕ) (before added : List ℕ) (cuts : ℕ)
+module _ (en : List ℕ) (edges : ℕ) (before added : List (Option ℕ)) (cuts : ℕ)
     (M : (ef : List Float) → Marked (rows (edge_at en ef) 0 edges) before added cuts) (ef : List Float) where
   abbrev es : List Edge
   es = rows (edge_at en ef) 0 edges
@@ -100,13 +101,13 @@ module _ (en : List ℕ) (edges : ℕ) (before added : List ℕ) (cuts : ℕ)
       rw (M ef).map (take_at (added_to (length es) es) (drop (length es) before) edges l)
 
   pub map_mends : (us ls : List ℕ) (wires : ℕ) → edges ≤ 4096 → wires_cause edges us ls wires ≡ 0
-      → (wires_cause (length (take edges added)) us ls wires ≡ 0) × ((k : ℕ) → get_or (take edges added) k 0 < 2147483648)
+      → (wires_cause (length (take edges added)) us ls wires ≡ 0) × AreNumbers (take edges added)
   map_mends us ls wires h z =
       let l : length (take edges added) ≡ edges = rw marked_map (length_added es (length es) ∙ les) in
-      (rw l z, λ k. rw marked_map (added_small es (length es) 2147483648 k (omega arith) (omega (arith, les, h))))
+      (rw l z, λ k. rw marked_map (added_small es (length es) 2147483648 k (omega (arith, les, h))))
 
 -- What `mend_closed` comes to, from the count of closed edges and what the mending told.
-module _ (en : List ℕ) (edges : ℕ) (us ls : List ℕ) (wires room : ℕ) (before added : List ℕ) (cuts : ℕ)
+module _ (en : List ℕ) (edges : ℕ) (us ls : List ℕ) (wires room : ℕ) (before added : List (Option ℕ)) (cuts : ℕ)
     (M : (ef : List Float) → Marked (rows (edge_at en ef) 0 edges) before added cuts) (us' ls' : List ℕ) (r : Result ℕ NoRoom)
     (I : InPlace (replace_wires (take edges added) (wires_of us (take wires ls))) (leb cuts room) us ls us' ls' r) where
   by_map : (ef : List Float) → InPlace (replace_wires (added_to (length (rows (edge_at en ef) 0 edges)) (rows (edge_at en ef) 0 edges)) (wires_of us (take wires ls)))
@@ -186,7 +187,7 @@ module _ (vn : List ℕ) (vf : List Float) (en : List ℕ) (ef : List Float) (us
       cuts_few = omega (arith, cuts_are, cuts_le)
 
       fit : (vertices_fit vn vf (v + cuts) ≡ true) × (edges_fit en ef (e + cuts) ≡ true)
-      fit = both (vertices_fit vn vf (v + cuts)) (edges_fit en ef (e + cuts)) (sym (has cuts) ∙ (both (leb cuts room) _ (sym (M.mended ef).fits ∙ told)).0)
+      fit = and_parts (vertices_fit vn vf (v + cuts)) (edges_fit en ef (e + cuts)) (sym (has cuts) ∙ (and_parts (leb cuts room) _ (sym (M.mended ef).fits ∙ told)).0)
 
       pub addable : Addable v e vn vf en ef
       addable =

@@ -33,13 +33,13 @@ fn mend_within<const N: usize>(
     ensures mended { closed_mended edges.now room wires.old wires.new result }
     ensures same { SameWires wires.old wires.new }
 {
-    let mut added = [0u32; N];
+    let mut added = [None; N];
     let cuts = add_edges::mark_closed(edges, &mut added);
     let uses = mending::mend_wires(wires, &added[..edges.count], cuts <= room)?;
     Ok(Closing { cuts, uses })
 }
 
-// The same by a table that is large enough: few edges have a small one, since to zero it takes time.
+// The same by a table that is large enough: few edges have a small one, since to fill it takes time.
 fn mend_closed(edges: &Table<Edge>, wires: &mut WiresMut, room: usize) -> Result<Closing, NoRoom>
     requires table { (edges.now.count ≤ 4096) × (edges.now.count * 4 ≤ length edges.now.numbers.now) }
     requires wires_value { wires_cause edges.now.count wires.old.uses.now wires.old.lengths.now wires.old.count ≡ 0 }

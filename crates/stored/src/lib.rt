@@ -4,7 +4,8 @@
 ghost use Rattle.std.specs.Prelude.{◌≡◌, true, ◌&&◌, ◌+◌, ◌*◌, ◌≤◌, eqb, length, IfOk, IfSome, OnOk};
 ghost use Rattle.stored.specs.Compared.{Compares, Keeps, Moved, Tested, word_at, word_before};
 
-// The descriptor of standard input. No reader of std stands in its place: at the end of the input `read_exact` answers an error, not what it read.
+// The descriptor of standard input. No reader of std stands in its place: at the end of the input `read_exact` answers an error and not what it read,
+// `read` may stop short, and to fill the buffer by it is the loop that the kit's `read_full` is.
 const STDIN_FILENO: i32 = 0;
 
 // The most cells that a buffer of a call has.

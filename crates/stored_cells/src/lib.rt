@@ -3,12 +3,11 @@
 
 ghost use Rattle.std.specs.Prelude.{◌≡◌, ◌≤◌, ℕ, Bool, eqb, length, IfOk, OnOk};
 ghost use Rattle.arrayvec.specs.ArrayVec.{array_vec_len};
-ghost use Rattle.std.specs.Float.{binary64};
-ghost use Rattle.std.specs.Float.Ieee.{nan_bits};
 ghost use Rattle.stored.specs.Compared.{Compares, Keeps, Tested};
-ghost use Rattle.stored_cells.specs.Floats.{float_of, has_pattern};
+ghost use Rattle.stored_cells.specs.Floats.{has_pattern};
 
 use arrayvec::ArrayVec;
+use std::num::f64_from_bits_with_nan;
 use stored::{Damaged, MOST, Reader};
 
 // What a cell of a buffer holds: it stands in one word of the list.
@@ -34,30 +33,12 @@ pub struct Buffer<T> {
 
 // ---- floats
 
-// Is this the bit pattern of a NaN? Without its sign it then lies above that of infinity. Not `from_bits(bits).is_nan()`: `from_bits` asks for
-// the pattern of no NaN.
-fn is_nan_pattern(bits: u64) -> bool
-    ensures { result ≡ nan_bits binary64 bits }
-{
-    bits % 0x8000_0000_0000_0000 > 0x7ff0_0000_0000_0000
-}
-
-// The float of a bit pattern. Every pattern of a NaN gives a NaN of no particular sign or payload.
-fn float_of(bits: u64) -> f64
-    ensures { result ≡ float_of bits }
-{
-    if is_nan_pattern(bits) {
-        return f64::NAN;
-    }
-    f64::from_bits(bits)
-}
-
 // Has x this bit pattern? A NaN has that of any NaN.
 fn has_pattern(x: f64, bits: u64) -> bool
     ensures { result ≡ has_pattern x bits }
 {
     if x.is_nan() {
-        return is_nan_pattern(bits);
+        return f64_from_bits_with_nan(bits).is_nan();
     }
     x.to_bits() == bits
 }
@@ -66,8 +47,7 @@ impl Cell for f64 {
     ghost has_word = { has_pattern };
 
     fn next(list: &mut Reader<'_>) -> Result<f64, Damaged> {
-        let bits = list.next()?;
-        Ok(float_of(bits))
+        Ok(f64_from_bits_with_nan(list.next()?))
     }
 
     fn compare(self, list: &mut Reader<'_>) -> Result<(), Damaged> {

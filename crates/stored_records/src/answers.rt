@@ -1,5 +1,5 @@
 // The answer of a call as the list has it, and its comparison.
-ghost use Rattle.std.specs.Prelude.{◌≡◌};
+ghost use Rattle.std.specs.Prelude.{◌≡◌, Ok};
 ghost use Rattle.compress.specs.Refusals.{refusal_number};
 ghost use Rattle.stored.specs.Compared.{Compares};
 ghost use Rattle.stored_records.specs.Answers.{IsAnswer, IsAnswerOrNone, IsBare, counts_told};
@@ -54,10 +54,7 @@ impl<T: Cell, const N: usize> From<Result<[T; N], Refusal>> for Answer<T, N> {
     ghost from_gives = { λ r a. IsAnswer T.is_default N r a };
 
     fn from(answer: Result<[T; N], Refusal>) -> Answer<T, N> {
-        match answer {
-            Ok(told) => Answer { number: 0, told },
-            Err(r) => Answer::refused(r),
-        }
+        Answer::from(answer.map(Some))
     }
 }
 
@@ -79,12 +76,11 @@ impl From<Result<Counts, Refusal>> for Answer<usize, 3> {
     ghost from_gives = { λ r a. IsAnswer (λ n. n ≡ 0) 3 (counts_told r) a };
 
     fn from(answer: Result<Counts, Refusal>) -> Answer<usize, 3> {
-        match answer {
-            Ok(n) => Answer {
-                number: 0,
-                told: [n.vertices, n.edges, n.uses],
-            },
-            Err(r) => Answer::refused(r),
-        }
+        // The closure says what it gives: of one that makes an array nothing is inferred.
+        Answer::from(answer.map(
+            |n| -> [usize; 3]
+                ensures { Ok result ≡ counts_told (Ok n) }
+            { [n.vertices, n.edges, n.uses] },
+        ))
     }
 }

@@ -7,6 +7,9 @@ use rows::tables::{Row, TableMut};
 use stored::{Damaged, Reader};
 use stored_cells::{Buffer, Cell};
 
+// What these read from the list, and the numbers and answers of other crates, is read by a function or method each, with the clause `keeps`, and compared
+// with `compares`: of the reader before and after, so no field can say it. A trait would state it once, and have as many members, for types of other crates.
+
 // How many vertices and edges a call was told.
 #[derive(Clone, Copy)]
 pub struct Counts {

@@ -3,7 +3,7 @@
 use mathlib.Core.Path.{◌≡◌, refl, sym, ◌∙◌}
 use mathlib.Core.Bool.{Bool, true, false, not, ◌&&◌}
 use Prim.Native.Nat.{ℕ}
-use borrow.Author.Tests.{eqb-true, eq-eqb, ne_eqb}
+use borrow.Author.Tests.{eqb-true, ne_eqb}
 use lib.Dec.{eqb}
 use lib.Ieee.{Float}
 use Rattle.floats.specs.Exact.{sized_of}
@@ -15,9 +15,6 @@ told_none b n q e = eqb-true n 0 (sym q ∙ e)
 
 pub tells_no : (n : ℕ) → (n ≡ 0 → ⊥) → false ≡ eqb n 0
 tells_no n h = sym (ne_eqb n 0 h)
-
-pub tells_yes : (n : ℕ) → n ≡ 0 → true ≡ eqb n 0
-tells_yes n h = sym (eq-eqb n 0 h)
 
 -- ---- points
 by_three : (a b c : Bool) → (a && b && c) ≡ eqb (lower_of (when (not a) 4) (lower_of (when (not b) 4) (when (not c) 4))) 0

@@ -31,7 +31,7 @@ fn curve_kind(kind: u32, curve_kind: u32) -> Checked
     checks::cause_when(pending & unknown, Refusal::Malformed)
 }
 
-fn vertex_row(vertices: &Table<Vertex>, i: usize) -> Checked
+pub fn vertex_row(vertices: &Table<Vertex>, i: usize) -> Checked
     requires { HasRow 3 7 vertices.now.numbers.now vertices.now.floats.now i }
     ensures { cause_of result ≡ vertex_row_cause vertices.now.numbers.now vertices.now.floats.now i }
 {
@@ -41,8 +41,8 @@ fn vertex_row(vertices: &Table<Vertex>, i: usize) -> Checked
     checks::lower(k, checks::lower(c, checks::vertex(vertices.at(i))))
 }
 
-// ---- the first pass: tests that only say yes or no. After a yes a table is not read again; after a no its rows tell the cause. The causes alone
-// take longer, measured (docs/PERFORMANCE.md, the two changes of 2026-11-16).
+// ---- the first pass: tests that only say yes or no. After a yes a table is not read again; after a no its rows tell the cause. Beside the causes for
+// speed, measured: full tables take 197,029 instructions with it, and 592,178 by the causes alone (docs/PERFORMANCE.md).
 
 // Three comparisons: -1.0e15 is at most t0, t0 at most t1, t1 at most 1.0e15. So both are sized.
 fn is_range_sound(t0: f64, t1: f64) -> bool
@@ -90,15 +90,7 @@ fn is_curve_sound(kind: u32, floats: &[f64], b: usize) -> bool
     if kind != 1 {
         return false;
     }
-    let p = Uv {
-        u: floats[b],
-        v: floats[b + 1],
-    };
-    let q = Uv {
-        u: floats[b + 2],
-        v: floats[b + 3],
-    };
-    is_uv_sound(p) & is_uv_sound(q)
+    is_uv_sound(Uv::read(floats, b)) & is_uv_sound(Uv::read(floats, b + 2))
 }
 
 // The edge of row i, between vertices of which there are at least `bound`.
@@ -180,10 +172,12 @@ pub fn edges(vertices: usize, edges: &Table<Edge>) -> Checked
     ensures { cause_of result ≡ edges_cause vertices edges.now.numbers.now edges.now.floats.now edges.now.count }
 {
     let bound = checks::narrow(vertices);
+    // A table of its own: behind the reference it would be read again in each row.
+    let edges = *edges;
     table(
-        edges,
-        |i| is_edge_sound(bound, edges, i),
-        |i| edge_row(vertices, edges, i),
+        &edges,
+        |i| is_edge_sound(bound, &edges, i),
+        |i| edge_row(vertices, &edges, i),
     )
 }
 
@@ -191,9 +185,10 @@ pub fn edges(vertices: usize, edges: &Table<Edge>) -> Checked
 pub fn vertices(vertices: &Table<Vertex>) -> Checked
     ensures { cause_of result ≡ vertices_cause vertices.now.numbers.now vertices.now.floats.now vertices.now.count }
 {
+    let vertices = *vertices;
     table(
-        vertices,
-        |i| is_vertex_sound(vertices, i),
-        |i| vertex_row(vertices, i),
+        &vertices,
+        |i| is_vertex_sound(&vertices, i),
+        |i| vertex_row(&vertices, i),
     )
 }

@@ -1,17 +1,11 @@
 -- Small laws that the proofs of several functions cite.
 -- Assumes nothing.
-use Prim.Native.Nat.{ℕ, zero, suc, ◌-◌, ◌%◌, ◌<◌}
+use Prim.Native.Nat.{ℕ, ◌-◌, ◌%◌, ◌<◌}
 use native.Mathlib.Omega.{arith}
-use mathlib.Core.Path.{◌≡◌, refl}
+use mathlib.Core.Path.{◌≡◌}
 use mathlib.Core.List.{List}
-use lib.ListN.{length, get_or, replicate}
+use lib.ListN.{length, get_or}
 use Rattle.lists.specs.Ends.{front_of, back_of, Sound}
-
--- a table of zeros is 0 everywhere
-pub zeros : (n k : ℕ) → ◌≡◌ {A = ℕ} (get_or {A = ℕ} (replicate n 0) k 0) 0
-zeros zero k = refl
-zeros (suc n) zero = refl
-zeros (suc n) (suc k) = zeros n k
 
 -- what the caller has checked, of the use u at a place of us
 module _ {en ds : List ℕ} {edges : ℕ} {ms us : List ℕ} (S : Sound en ds edges ms us) where

@@ -6,7 +6,7 @@ use native.Mathlib.Numerals.{add-one}
 use mathlib.Core.Path.{◌≡◌, refl, sym, ap, ◌∙◌}
 use mathlib.Core.Logic.{◌≢◌}
 use mathlib.Core.Bool.{Bool, true}
-use mathlib.Core.List.{List, [], ◌∷◌, ◌++◌, map, append-nil, append_assoc}
+use mathlib.Core.List.{List, [], ◌∷◌, ◌++◌, append-nil, append_assoc}
 use lib.ListN.{length, take, drop, get_or, set, take-append-drop}
 use lib.Seq.{length-take-le, take-suc-set, take-take, drop-append-le, drop_at}
 use borrow.Author.Tests.{eq-eqb}
@@ -99,7 +99,3 @@ wire_joined made from taken le = ap (λ (l : List ℕ). l ++ drop from (take tak
 pub join_snoc : (ws : List (List ℕ)) (w : List ℕ) → join (ws ++ (w ∷ [])) ≡ join ws ++ w
 join_snoc [] w = append-nil w
 join_snoc (v ∷ ws) w = ap (λ (l : List ℕ). v ++ l) (join_snoc ws w) ∙ sym (append_assoc v (join ws) w)
-
-pub map_snoc : (ws : List (List ℕ)) (w : List ℕ) → map length (ws ++ (w ∷ [])) ≡ map length ws ++ (length w ∷ [])
-map_snoc [] w = refl
-map_snoc (v ∷ ws) w = ap (λ (l : List ℕ). length v ∷ l) (map_snoc ws w)

@@ -2,11 +2,12 @@
 -- Assumes nothing.
 use mathlib.Core.Path.{◌≡◌, refl, ap, ◌∙◌}
 use mathlib.Core.List.{List, [], ◌∷◌, ◌++◌, map}
-use Prim.Native.Nat.{ℕ, suc, ◌≤◌}
+use Prim.Native.Nat.{ℕ, ◌≤◌}
 use native.Mathlib.Omega.{arith}
 use lib.ListN.{length, take, drop}
 use lib.Seq.{length-take-le}
 use Rattle.compress.specs.Wires.{total, uses_of, lengths_of}
+use Rattle.compress.proofs.Wires.{length_lengths}
 use Rattle.walk.specs.declared.Walked.{Walked}
 use Rattle.std.proofs.Common.{Ok, Err}
 use Rattle.compress.specs.declared.Refusal.{Refusal}
@@ -18,11 +19,6 @@ pub uses_joined : (ws : List (List ℕ)) → uses_of ws ≡ join ws
 unfolding uses_of
 uses_joined [] = refl
 uses_joined (w ∷ ws) = ap (λ (x : List ℕ). w ++ x) (uses_joined ws)
-
-pub length_lengths : (ws : List (List ℕ)) → length (lengths_of ws) ≡ length ws
-unfolding lengths_of
-length_lengths [] = refl
-length_lengths (w ∷ ws) = ap suc (length_lengths ws)
 
 lengths_mapped : (ws : List (List ℕ)) → lengths_of ws ≡ map length ws
 unfolding lengths_of

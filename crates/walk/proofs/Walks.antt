@@ -13,6 +13,7 @@ use Rattle.walk.specs.Walk.{refuse, along, side, join, choose, walk}
 use Rattle.lists.specs.Members.{count, del, sits, at}
 use Rattle.walk.proofs.Buckets.{all_empty}
 use Rattle.std.proofs.lemmas.Bool.{cases_lt}
+use Rattle.std.proofs.lemmas.List.{map-append}
 use Rattle.std.proofs.Common.{⊎_elim, Option, Some, None, Ok, Err, IsSome, unwrap_or}
 use Rattle.compress.specs.declared.Refusal.{Refusal}
 use Rattle.compress.specs.declared.Refusal.TheVariants.{DeadEnd, TooManyUses}
@@ -21,7 +22,7 @@ use Rattle.step.specs.Arrival.{exactly_one, Went, absent, empty, many, one, seco
 use Rattle.compress.specs.Wires.{total}
 use Rattle.walk.specs.Answered.{Traced}
 use Rattle.lists.proofs.Chains.{chain_none, node, entry_some, lists_last, lists_first, two, one_only, three}
-use Rattle.walk.proofs.Steps.{going, after, after_walk, after_nil, going_refused, going_along, going_closed, after_fresh, shorter, wire_more, wire_first, wire_joined, join_snoc, map_snoc}
+use Rattle.walk.proofs.Steps.{going, after, after_walk, after_nil, going_refused, going_along, going_closed, after_fresh, shorter, wire_more, wire_first, wire_joined, join_snoc}
 
 side_second : (a b : Bool) → exactly_one a b ≡ false → side a b ≡ 1
 side_second true true e = refl
@@ -283,7 +284,7 @@ module _ {front back : ℕ → ℕ} {marked : ℕ → Bool} {us : List ℕ} wher
           few = omega (arith, A.few, A.from_lt);
           n_is = length-append A.ws (wire ∷ []) ∙ omega (arith, A.n_is);
           joined = join_snoc A.ws wire ∙ ap (λ (l : List ℕ). l ++ wire) A.joined ∙ wire_joined made from taken (omega (arith, A.from_lt));
-          sized = map_snoc A.ws wire ∙ ap (λ (j : ℕ). map length A.ws ++ (j ∷ [])) lw ∙ ap (λ (l : List ℕ). l ++ ((taken - from) ∷ [])) A.sized
+          sized = map-append length A.ws (wire ∷ []) ∙ ap (λ (j : ℕ). map length A.ws ++ (j ∷ [])) lw ∙ ap (λ (l : List ℕ). l ++ ((taken - from) ∷ [])) A.sized
               ∙ sym (ap (λ (j : ℕ). take j (set sizes n (taken - from))) (add-one n) ∙ take-suc-set sizes n (taken - from) n_lt);
           to = sym (going_closed front back marked start last A.rest wire A.ws (length A.rest) e) ∙ A.to;
         }

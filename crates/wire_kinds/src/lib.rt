@@ -41,7 +41,7 @@ const CLOSING: f64 = 1.0e-3;
 fn is_closed(a: Uv, b: Uv) -> bool
     ensures { result ≡ is_closed a b }
 {
-    floats::distance2_uv(a.u, a.v, b.u, b.v) < CLOSING
+    floats::distance2_uv(a, b) < CLOSING
 }
 
 fn kind_of(wire: Ends) -> BoundaryType
@@ -80,8 +80,9 @@ pub fn boundary_type(a: Uv, b: Uv, area: f64) -> Result<BoundaryType, Refusal>
 
 // ---- sorting of wires
 
-// The ends of wires, as a host lends them: five floats each, and how many wires they are said to be. A trait over these rows, those of cuts and those
-// of a divisor would have a member for each: all they share is the count.
+// The ends of wires, as a host lends them: five floats each, and how many wires they are said to be. No trait over these rows, those of cuts and those
+// of a divisor: a row has five floats, four, or two and a number in a second slice, each has its own causes, and `checks::lowest_cause` is the loop of all. Nor a
+// `rows::tables::Row`, which has numbers in each row, is written too, and is one of at most 4,096.
 #[derive(Clone, Copy)]
 pub struct LentEnds<'a> {
     pub floats: &'a [f64],
@@ -96,17 +97,9 @@ impl LentEnds<'_> {
     {
         let floats = self.floats;
         let a = i * 5;
-        let first = Uv {
-            u: floats[a],
-            v: floats[a + 1],
-        };
-        let last = Uv {
-            u: floats[a + 2],
-            v: floats[a + 3],
-        };
         Ends {
-            first,
-            last,
+            first: Uv::read(floats, a),
+            last: Uv::read(floats, a + 2),
             area: floats[a + 4],
         }
     }
@@ -139,7 +132,8 @@ impl LentEnds<'_> {
         ensures opens_after { take result opens.new ≡ wanted_below self.now.floats.now true self.now.count }
         ensures closed_after { take (self.now.count - result) closed.new ≡ wanted_below self.now.floats.now false self.now.count }
     {
-        // How many are open is the place of the next one, in fixed memory: no heap, and no crate of the kit here; i - at are closed.
+        // How many are open is the place of the next one, and i - at are closed. Slices and no ArrayVec, by a rule of the project: what hosts link
+        // stands on std alone (docs/DECISIONS.md).
         let mut at: usize = 0;
         for i in 0..self.count {
             if self.is_open(i) {

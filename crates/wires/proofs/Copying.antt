@@ -2,10 +2,11 @@
 use Rattle.std.proofs.Common.{◌≡◌, ℕ, ◌+◌, ◌-◌, ◌≤◌, List, [], ◌∷◌, ◌++◌, length, take, drop, refl, sym, ap, ◌∙◌}
 use Rattle.std.proofs.Common.{arith}
 use mathlib.Core.List.{append_assoc, append-nil}
-use lib.ListN.{take-append-drop, length-append, length-drop, drop_of_length-le}
-use lib.Seq.{length-take-le, take_all, take_at, drop_at, drop-drop}
+use lib.ListN.{take-append-drop, length-append, length-drop}
+use lib.Seq.{length-take-le, take_at, drop_at, drop-drop}
 use Rattle.compress.specs.Wires.{total, uses_of}
-use Rattle.compress.proofs.Wires.{uses_all}
+use Rattle.compress.proofs.Rest.{rest_length, rest_laid}
+use Rattle.compress.proofs.Wires.{uses_all, uses_lent}
 use Rattle.rows.specs.declared.lent.Wires.{Wires}
 use Rattle.rows.specs.Held.{wires_in}
 
@@ -18,15 +19,6 @@ pub record Copied (all : List (List ℕ)) (out₀ out : List ℕ) (at : ℕ) (re
 
 pub copied_start : (all rest : List (List ℕ)) (out : List ℕ) → rest ≡ all → Copied all out out 0 rest
 copied_start all rest out e = record { at_is = rw e (omega arith); same = refl; laid = rw e refl; behind = refl }
-
--- the wire w is laid from place `at` on
-laid_one : (out ys w : List ℕ) (at : ℕ) → at + length w ≤ length out → ys ≡ w ++ drop (length w) (take (length out - at) (drop at out))
-    → take at out ++ (ys ++ drop (length out - at) (drop at out)) ≡ (take at out ++ w) ++ drop (at + length w) out
-laid_one out ys w at h e =
-    let whole : take (length out - at) (drop at out) ≡ drop at out = take_all (length out - at) (drop at out) (omega (arith, length-drop at out)) in
-    let none : drop (length out - at) (drop at out) ≡ [] = drop_of_length-le (drop at out) {i = length out - at} (omega (arith, length-drop at out)) in
-    let y : ys ≡ w ++ drop (at + length w) out = e ∙ rw (whole, drop-drop) refl in
-    rw (none, y, append-nil) (sym (append_assoc (take at out) w (drop (at + length w) out)))
 
 module _ (all : List (List ℕ)) (out₀ out : List ℕ) (at : ℕ) (rest left : List (List ℕ)) (w : List ℕ) (C : Copied all out₀ out at rest) (e : rest ≡ w ∷ left)
     (room : length (uses_of all) ≤ length out₀) where
@@ -41,7 +33,7 @@ module _ (all : List (List ℕ)) (out₀ out : List ℕ) (at : ℕ) (rest left :
       → Copied all out₀ (take at out ++ (ys ++ drop (length out - at) (drop at out))) (at + length w) left
   unfolding uses_of
   copied_turn ys ey =
-      let q = laid_one out ys w at next_fits ey in
+      let q = rest_laid out at ys w ey ∙ sym (append_assoc (take at out) w (drop (at + length w) out)) in
       let front : length (take at out ++ w) ≡ at + length w = length-append (take at out) w ∙ ap (λ (n : ℕ). n + length w) (length-take-le at out (omega (arith, next_fits))) in
       record {
         at_is = omega (arith, size, C.at_is);
@@ -60,13 +52,13 @@ copied_done all out₀ out at rest C e h =
 
 -- ---- said of wires that lie in their slices
 pub part_fits : (out : List ℕ) (at n : ℕ) → at + n ≤ length out → n ≤ length (take (length out - at) (drop at out))
-part_fits out at n h = rw (length-take-le (length out - at) (drop at out) (omega (arith, length-drop at out))) (omega arith)
+part_fits out at n h = omega (arith, rest_length out at)
 
 module _ (made : Wires) where
   pub all_fit : (out : List ℕ) → total (take made.count made.lengths.now) ≤ length made.uses.now → total (take made.count made.lengths.now) ≤ length out
       → length (uses_of (wires_in made)) ≤ length out
-  all_fit out l h = rw (uses_all made.uses.now (take made.count made.lengths.now), length-take-le _ made.uses.now l) h
+  all_fit out l h = rw (uses_lent made.uses.now (take made.count made.lengths.now) l) h
 
   pub all_are : (out out₀ : List ℕ) → total (take made.count made.lengths.now) ≤ length made.uses.now → out ≡ uses_of (wires_in made) ++ drop (length (uses_of (wires_in made))) out₀
       → out ≡ take (total (take made.count made.lengths.now)) made.uses.now ++ drop (total (take made.count made.lengths.now)) out₀
-  all_are out out₀ l e = rw (uses_all made.uses.now (take made.count made.lengths.now), length-take-le _ made.uses.now l) at e
+  all_are out out₀ l e = rw (uses_lent made.uses.now (take made.count made.lengths.now) l, uses_all made.uses.now (take made.count made.lengths.now)) at e

@@ -1,11 +1,11 @@
 -- Places and counts in what is copied. Assumes nothing.
-use Rattle.std.proofs.Common.{◌≡◌, ℕ, ◌+◌, ◌-◌, ◌*◌, ◌≤◌, ◌<◌, List, [], ◌∷◌, ◌++◌, length, take, drop, get_or, ap, sym, ◌∙◌}
+use Rattle.std.proofs.Common.{◌≡◌, ℕ, ◌+◌, ◌-◌, ◌*◌, ◌≤◌, ◌<◌, List, length, take, drop, get_or, ap, sym, ◌∙◌}
 use Rattle.std.proofs.Common.{arith}
 use mir.Syntax.{w64}
 use mir.Val.{Fits}
 use lib.Seq.{take-add}
 use Rattle.compress.specs.Wires.{total}
-use Rattle.compress.proofs.Wires.{total_more}
+use Rattle.compress.proofs.Wires.{total_both, total_more}
 
 -- a count below another, and what is left to it
 pub count_fits : {k n : ℕ} → k < n → Fits w64 n → Fits w64 (k + 1)
@@ -19,11 +19,6 @@ pub less_left : {k n : ℕ} → k < n → n - (k + 1) < n - k
 less_left h = omega arith
 
 -- sums of the first of a list
-total_both : (a b : List ℕ) → total (a ++ b) ≡ total a + total b
-unfolding total
-total_both [] b = omega arith
-total_both (x ∷ a) b = omega (arith, total_both a b)
-
 total_room : (l : List ℕ) (k n : ℕ) → k < n → n ≤ length l → total (take k l) + get_or l k 0 ≤ total (take n l)
 total_room l k n h hn =
     let s : (k + 1) + (n - (k + 1)) ≡ n = omega arith in

@@ -1,13 +1,14 @@
 -- A turned wire: its length and its uses, and its two parts written one after the other.
 -- Assumes nothing.
 use mathlib.Core.Path.{◌≡◌, refl, ap, sym, ◌∙◌}
-use mathlib.Core.List.{List, [], ◌++◌, append_assoc, append-nil}
+use mathlib.Core.List.{List, ◌++◌, append_assoc}
 use Prim.Native.Nat.{ℕ, ◌+◌, ◌-◌, ◌%◌, ◌≤◌, ◌<◌}
 use native.Mathlib.Omega.{arith}
 use native.Mathlib.Decide.{dec_lt}
 use native.Mathlib.Nat.{mod-eq_of_lt, mod-eq-sub-mod}
-use lib.ListN.{length, get_or, take, drop, length-append, length-drop, drop_of_length-le, get_or-append}
+use lib.ListN.{length, get_or, take, drop, length-append, length-drop, get_or-append}
 use lib.Seq.{length-take-le, take_all, take_at, drop_at, drop-drop, get_or-append-add, get_or-drop, get_or-take}
+use Rattle.compress.proofs.Rest.{rest_laid}
 use Rattle.wires.specs.Turn.{turned}
 
 -- turning keeps the length
@@ -56,8 +57,5 @@ module _ (i : ℕ) (w out : List ℕ) (i_le : i ≤ length w) (room : length w �
       let size : length (take i w) ≡ i = length-take-le i w (omega arith) in
       let front : take n out₁ ≡ drop i w = rw first (take_at (drop i w) (drop n out) n l) in
       let back : drop n out₁ ≡ drop n out = rw first (drop_at (drop i w) (drop n out) n l) in
-      let whole : length out₁ ≡ length out = rw first (simp (length-append, length-drop) (omega arith)) in
-      let left : length (drop n out) ≡ length out - n = length-drop n out in
-      let none : drop (length out - n) (drop n out) ≡ [] = drop_of_length-le (drop n out) {i = length out - n} (omega arith) in
       let p : n + i ≡ length w = omega arith in
-      rw (e₂, size, front, back, whole, take_all (length out - n) (drop n out) (omega arith), none, append-nil, drop-drop i n out, p, append_assoc)
+      rest_laid out₁ n ys (take i w) e₂ ∙ rw (front, size, ← drop-drop i n out₁, back, drop-drop i n out, p, append_assoc)

@@ -1,12 +1,10 @@
-use Rattle.std.proofs.Common.{◌≡◌, ◌≤◌, ◌+◌, ◌*◌, ◌∷◌, [], ◌++◌, List, Float, length, get_or, take, eqb, arith, ℕ, Bor}
-use borrow.Author.Tests.{eq-eqb, ne_eqb}
+use Rattle.std.proofs.Common.{◌≡◌, ◌≤◌, ◌+◌, ◌*◌, ◌∷◌, [], ◌++◌, List, Float, length, get_or, take, eqb, arith, ap, ◌∙◌, ℕ, Bor}
 use Rattle.std.proofs.lemmas.List.{length_push}
 use Rattle.std.proofs.lemmas.Iterator.Consumers.{YieldsList-from_enumerate, YieldsList-turn, YieldsList-end}
 use Rattle.compress.specs.Records.{closed}
 use Rattle.compress.specs.Rows.{edge_at, edge_of}
 use Rattle.add_edges.proofs.Quads.{yields_quads, quad_item, numbered_length}
-use Rattle.add_edges.proofs.Marking.{marking_start, marking_turn, marking_done}
-use Rattle.add_edges.proofs.mark_closed.Goals.{then-cut, else-cut}
+use Rattle.add_edges.proofs.Marking.{then_is, next_is, marking_start, marking_turn, marking_done}
 use Rattle.add_edges.proofs.mark_closed.Goals as goal
 
 pub loop-i-init : goal.loop-i-init
@@ -26,11 +24,7 @@ loop-i-preserved c =
     let n : length (l.yielded ++ (item ∷ [])) ≡ k + 1 = omega (arith, length_push l.yielded item) in
     rw (n, q.place_is)
     (marking_turn _ _ _ c.requires.2 l.added k l.m b _ _ l.invariant q.inside same
-    (elim c.if-cut.branch [ then-cut w ↦ rw (eq-eqb _ _ w.if-cut.true) w.added-is | else-cut w ↦ rw (ne_eqb _ _ w.if-cut.false) w.added-is ])
-    (elim c.if-cut.branch [
-      | then-cut w ↦ rw (c.from.ensures, eq-eqb _ _ w.if-cut.true)
-      | else-cut w ↦ rw (c.from.ensures, ne_eqb _ _ w.if-cut.false) (omega arith)
-    ]))
+    (c.then_some.ensures ∙ then_is b l.m) (ap (λ (x : ℕ). l.m + x) c.from-m.ensures ∙ next_is b l.m))
 
 pub returns : goal.returns
 returns c =

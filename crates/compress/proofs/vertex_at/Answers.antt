@@ -4,7 +4,7 @@ use Rattle.compress.proofs.vertex_at.Goals as goal
 
 pub returns-then-numbers-a-eq0 : goal.returns-then-numbers-a-eq0
 unfolding vertex_of
-returns-then-numbers-a-eq0 c = rw c.read-x.ensures (simp (eq-eqb _ _ c.if-numbers-a-eq0.true))
+returns-then-numbers-a-eq0 c = rw (c.from.ensures, c.read.ensures) (simp (eq-eqb _ _ c.if-numbers-a-eq0.true))
 
 pub returns : goal.returns
 unfolding vertex_of

@@ -4,4 +4,4 @@ use Rattle.cuts.proofs.cut_cause.Goals as goal
 
 pub returns : goal.returns
 unfolding cut_cause
-returns c = lower_same c.parameter-t.ensures c.point-p.ensures c.lower.ensures
+returns c = lower_same c.parameter.ensures c.point.ensures c.lower.ensures

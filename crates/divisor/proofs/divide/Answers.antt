@@ -4,8 +4,10 @@ use Rattle.divisor.proofs.Divisors.{stretch_known}
 use Rattle.divisor.proofs.divide.Goals as goal
 
 pub front-v0-requires : goal.front-v0-requires
-front-v0-requires c = edge_row _ c.requires.sound _ (c.requires.wire_sound.1 _ (omega (arith, c.div_ceil-k0.ensures, c.requires.j0_in_wire.0, c.requires.j0_in_wire.1)))
+front-v0-requires c =
+    let d = c.args.doubled.now in
+    edge_row c.args.tables.now _ (c.requires.wire_sound.1 _ (omega (arith, c.div_ceil-k0.ensures, d.later, d.inside)))
 
 pub nearest_ends-requires-clause-first_in_table : goal.nearest_ends-requires-clause-first_in_table
 nearest_ends-requires-clause-first_in_table c =
-    stretch_known _ _ 1 _ (omega (arith, c.requires.j0_in_wire.1)) c.requires.wire_sound.1
+    stretch_known _ _ 1 _ (omega (arith, c.args.doubled.now.inside)) c.requires.wire_sound.1

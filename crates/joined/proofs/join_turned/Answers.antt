@@ -2,7 +2,6 @@ use mathlib.Core.Path.{ap, refl, ◌∙◌}
 use native.Mathlib.Omega.{arith}
 use Rattle.compress.proofs.Refused.{exit_is}
 use Rattle.compress.specs.Said.{result, none}
-use Rattle.laying.proofs.Places.{found_is}
 use Rattle.joined.specs.Outcome.{left_by}
 use Rattle.joined.proofs.Joining.{joined_no_place, joined_no_wire, wire_found, part_within, laying_asks, call_leaves}
 use Rattle.joined.proofs.join_turned.Goals as goal
@@ -40,14 +39,14 @@ slice_bounds-wire-end c =
     let p = part_within J c.args.joint.now.v0 W from in
     rw (c.place.ensures.end, v.uses_value, v.lengths_value) (omega (arith, p, J.lies.uses))
 
-pub lay_joined-requires-clause-layable : goal.lay_joined-requires-clause-layable
-lay_joined-requires-clause-layable c =
+pub lay_joined-requires : goal.lay_joined-requires
+lay_joined-requires c =
     let v = c.view-lent.ensures in
     let J = c.requires.joinable in
     let W = rw (v.uses_value, v.lengths_value, v.count_value) at c.in-Some-find_wire.ensures in
     let from = rw v.lengths_value at c.place.ensures.start in
     rw (c.place.ensures.end, v.uses_value, v.lengths_value)
-    (laying_asks J c.args.joint.now.v0 W from c.args.first.now _ refl refl c.args.first.now.turn (omega (arith, found_is _ _ c.in-Some.ensures)))
+    record { layable = laying_asks J c.args.joint.now.v0 W from c.args.first.now _ refl refl }
 
 pub returns-in_default-lay_joined-clause-outcome : goal.returns-in_default-lay_joined-clause-outcome
 returns-in_default-lay_joined-clause-outcome c =

@@ -1,9 +1,6 @@
-use Prim.Native.Nat.{◌+◌, ◌≤◌}
-use native.Mathlib.Omega.{arith}
-use lib.ListN.{length}
 use Rattle.wires.specs.Turn.{turned}
 use Rattle.wires.proofs.Turns.{length_turned}
-use Rattle.laying.proofs.Laying.{laid_at}
+use Rattle.compress.proofs.Rest.{rest_laid}
 use Rattle.laying.proofs.lay_turned.Goals as goal
 
 pub returns : goal.returns
@@ -11,5 +8,4 @@ returns c =
     let a = c.args in
     let l = length_turned a.w.now.by a.w.now.wire.now a.w.now.turn in
     let t = turned a.w.now.by a.w.now.wire.now in
-    let h : a.at + length t ≤ length a.out.now = omega (arith, c.requires) in
-    rw (← l) (laid_at a.out.now _ t a.at h (rw (← l) at c.rotate_left.ensures))
+    rw (← l) (rest_laid a.out.now a.at _ t (rw (← l) at c.rotate_left.ensures))

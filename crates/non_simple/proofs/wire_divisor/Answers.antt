@@ -3,4 +3,4 @@ use Rattle.non_simple.proofs.Scanning.{has_place}
 use Rattle.non_simple.proofs.wire_divisor.Goals as goal
 
 pub find_loop-requires-clause-by_index : goal.find_loop-requires-clause-by_index
-find_loop-requires-clause-by_index c = has_place _ c.requires.sound _ _ c.requires.wire_sound.1 (search rules)
+find_loop-requires-clause-by_index c = has_place c.args.tables.now _ _ c.requires.wire_sound.1 (search rules)

@@ -1,18 +1,14 @@
 use Rattle.std.proofs.Common.{arith}
 use Rattle.std.proofs.lemmas.Result.{err_from_is_err_and}
 use Rattle.cutting.proofs.Outcome.{accepted, no_cause}
+use Rattle.cutting.proofs.Room.{views_asked, views_room}
 use Rattle.one_cut.proofs.Outcome.{places, outcome_full, outcome_done}
 use Rattle.one_cut.proofs.cut_checked.Goals as goal
 
 pub cut_room-room-requires : goal.cut_room-room-requires
 cut_room-room-requires c =
     let A = accepted _ _ _ _ _ _ _ _ _ c.requires.0 in
-    let v = c.view.ensures in
-    let e = c.view-2.ensures in
-    record {
-      vertices_bound = rw (v.numbers_value, v.floats_value, v.count_value) (A.vertices.below, A.vertices.numbers, A.vertices.floats);
-      edges_bound = rw (e.numbers_value, e.floats_value, e.count_value) (A.edges.below, A.edges.numbers, A.edges.floats);
-    }
+    views_asked c.view.ensures c.view-2.ensures A.vertices A.edges
 
 pub mend_cut-requires : goal.mend_cut-requires
 mend_cut-requires c =
@@ -24,11 +20,11 @@ mend_cut-requires c =
 pub returns-in_err-uses-clause-outcome : goal.returns-in_err-uses-clause-outcome
 returns-in_err-uses-clause-outcome c =
     let p = err_from_is_err_and c.from_residual.result c.from_residual.ensures.1 in
-    rw (p.1, p.2) (outcome_full _ _ _ _ _ _ _ _ _ c.args.i c.args.c c.requires.0 _ (λ k. rw (c.view.ensures.numbers_value, c.view.ensures.floats_value, c.view.ensures.count_value, c.view-2.ensures.numbers_value, c.view-2.ensures.floats_value, c.view-2.ensures.count_value) at c.cut_room-room.ensures k) _ _ _ c.mend_cut.ensures.mended _ c.in_err-uses.was)
+    rw (p.1, p.2) (outcome_full _ _ _ _ _ _ _ _ _ c.args.i c.args.c c.requires.0 _ (views_room c.view.ensures c.view-2.ensures _ c.cut_room-room.ensures) _ _ _ c.mend_cut.ensures.mended _ c.in_err-uses.was)
 
 pub put_cut-requires : goal.put_cut-requires
 put_cut-requires c =
-    let p = places _ _ _ _ _ _ _ _ _ c.args.i c.args.c c.requires.0 _ (λ k. rw (c.view.ensures.numbers_value, c.view.ensures.floats_value, c.view.ensures.count_value, c.view-2.ensures.numbers_value, c.view-2.ensures.floats_value, c.view-2.ensures.count_value) at c.cut_room-room.ensures k) _ _ _ c.mend_cut.ensures.mended _ c.in_ok-uses.was in
+    let p = places _ _ _ _ _ _ _ _ _ c.args.i c.args.c c.requires.0 _ (views_room c.view.ensures c.view-2.ensures _ c.cut_room-room.ensures) _ _ _ c.mend_cut.ensures.mended _ c.in_ok-uses.was in
     record { vertex_row = (p.0.0, (p.0.1, p.0.2)); edge_row = (c.requires.1, (p.1.0, p.1.1)) }
 
 pub overflow_add-result : goal.overflow_add-result
@@ -41,5 +37,5 @@ pub returns-clause-outcome : goal.returns-clause-outcome
 returns-clause-outcome c =
     let p = c.put_cut.ensures in
     rw (p.same_vertices.count, p.same_edges.count)
-    (outcome_done _ _ _ _ _ _ _ _ _ c.args.i c.args.c c.requires.0 _ (λ k. rw (c.view.ensures.numbers_value, c.view.ensures.floats_value, c.view.ensures.count_value, c.view-2.ensures.numbers_value, c.view-2.ensures.floats_value, c.view-2.ensures.count_value) at c.cut_room-room.ensures k) _ _ _ c.mend_cut.ensures.mended _ _ _ _ _ c.in_ok-uses.was c.requires.1
+    (outcome_done _ _ _ _ _ _ _ _ _ c.args.i c.args.c c.requires.0 _ (views_room c.view.ensures c.view-2.ensures _ c.cut_room-room.ensures) _ _ _ c.mend_cut.ensures.mended _ _ _ _ _ c.in_ok-uses.was c.requires.1
     p.vertex_numbers_after p.vertex_floats_after p.edge_numbers_after p.edge_floats_after)

@@ -1,4 +1,4 @@
-use Rattle.std.proofs.Common.{arith, refl, replicate}
+use Rattle.std.proofs.Common.{None, arith, refl, replicate}
 use lib.ListN.{length-replicate}
 use Rattle.one_cut.proofs.Outcome.{marked, map_mends}
 use Rattle.one_cut.proofs.mend_within.Goals as goal
@@ -10,4 +10,6 @@ mend_wires-requires g c =
 
 pub returns-clause-mended : goal.returns-clause-mended
 returns-clause-mended g c =
-    rw (marked (replicate g.row.N 0) _ c.args.edges c.args.i c.args.edges refl (rw length-replicate) c.requires.table.0 (rw length-replicate c.requires.table.1)) at c.mend_wires.ensures.mended
+    let map = marked (replicate g.row.N None) _ c.args.edges c.args.i c.args.edges refl (rw length-replicate) c.requires.table.0
+    (rw length-replicate c.requires.table.1) in
+    rw map at c.mend_wires.ensures.mended

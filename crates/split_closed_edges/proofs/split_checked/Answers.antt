@@ -1,18 +1,14 @@
 use Rattle.std.proofs.lemmas.Result.{err_from_is_err_and}
 use Rattle.std.proofs.Common.{arith}
 use Rattle.cutting.proofs.Outcome.{accepted}
+use Rattle.cutting.proofs.Room.{views_asked, views_room}
 use Rattle.split_closed_edges.proofs.Outcome.{closable, cuts_few, addable, outcome_full, outcome_done}
 use Rattle.split_closed_edges.proofs.split_checked.Goals as goal
 
 pub cut_room-room-requires : goal.cut_room-room-requires
 cut_room-room-requires c =
     let A = accepted _ _ _ _ _ _ _ _ _ c.requires in
-    let v = c.view.ensures in
-    let e = c.view-2.ensures in
-    record {
-      vertices_bound = rw (v.numbers_value, v.floats_value, v.count_value) (A.vertices.below, A.vertices.numbers, A.vertices.floats);
-      edges_bound = rw (e.numbers_value, e.floats_value, e.count_value) (A.edges.below, A.edges.numbers, A.edges.floats);
-    }
+    views_asked c.view.ensures c.view-2.ensures A.vertices A.edges
 
 pub mend_closed-requires : goal.mend_closed-requires
 mend_closed-requires c =
@@ -24,16 +20,16 @@ pub returns-in_err-m-clause-outcome : goal.returns-in_err-m-clause-outcome
 returns-in_err-m-clause-outcome c =
     let p = err_from_is_err_and c.from_residual.result c.from_residual.ensures.1 in
     rw (p.1, p.2)
-    (outcome_full _ _ _ _ _ _ _ _ _ c.requires _ (λ k. rw (c.view.ensures.numbers_value, c.view.ensures.floats_value, c.view.ensures.count_value, c.view-2.ensures.numbers_value, c.view-2.ensures.floats_value, c.view-2.ensures.count_value) at c.cut_room-room.ensures k) _ _ _ (rw (c.view-3.ensures.numbers_value, c.view-3.ensures.count_value) at c.mend_closed.ensures.mended) _ c.in_err-m.was)
+    (outcome_full _ _ _ _ _ _ _ _ _ c.requires _ (views_room c.view.ensures c.view-2.ensures _ c.cut_room-room.ensures) _ _ _ (rw (c.view-3.ensures.numbers_value, c.view-3.ensures.count_value) at c.mend_closed.ensures.mended) _ c.in_err-m.was)
 
 pub add_edges-requires : goal.add_edges-requires
-add_edges-requires c = addable _ _ _ _ _ _ _ _ _ c.requires _ (λ k. rw (c.view.ensures.numbers_value, c.view.ensures.floats_value, c.view.ensures.count_value, c.view-2.ensures.numbers_value, c.view-2.ensures.floats_value, c.view-2.ensures.count_value) at c.cut_room-room.ensures k) _ _ _ (rw (c.view-3.ensures.numbers_value, c.view-3.ensures.count_value) at c.mend_closed.ensures.mended) _ c.in_ok-m.was
+add_edges-requires c = addable _ _ _ _ _ _ _ _ _ c.requires _ (views_room c.view.ensures c.view-2.ensures _ c.cut_room-room.ensures) _ _ _ (rw (c.view-3.ensures.numbers_value, c.view-3.ensures.count_value) at c.mend_closed.ensures.mended) _ c.in_ok-m.was
 
 pub overflow_add-result : goal.overflow_add-result
 overflow_add-result c =
     omega (
       arith,
-      cuts_few _ _ _ _ _ _ _ _ _ c.requires _ (λ k. rw (c.view.ensures.numbers_value, c.view.ensures.floats_value, c.view.ensures.count_value, c.view-2.ensures.numbers_value, c.view-2.ensures.floats_value, c.view-2.ensures.count_value) at c.cut_room-room.ensures k) _ _ _ (rw (c.view-3.ensures.numbers_value, c.view-3.ensures.count_value) at c.mend_closed.ensures.mended) _ c.in_ok-m.was,
+      cuts_few _ _ _ _ _ _ _ _ _ c.requires _ (views_room c.view.ensures c.view-2.ensures _ c.cut_room-room.ensures) _ _ _ (rw (c.view-3.ensures.numbers_value, c.view-3.ensures.count_value) at c.mend_closed.ensures.mended) _ c.in_ok-m.was,
       (accepted _ _ _ _ _ _ _ _ _ c.requires).vertices.below,
     )
 
@@ -41,11 +37,11 @@ pub overflow_add-result-2 : goal.overflow_add-result-2
 overflow_add-result-2 c =
     omega (
       arith,
-      cuts_few _ _ _ _ _ _ _ _ _ c.requires _ (λ k. rw (c.view.ensures.numbers_value, c.view.ensures.floats_value, c.view.ensures.count_value, c.view-2.ensures.numbers_value, c.view-2.ensures.floats_value, c.view-2.ensures.count_value) at c.cut_room-room.ensures k) _ _ _ (rw (c.view-3.ensures.numbers_value, c.view-3.ensures.count_value) at c.mend_closed.ensures.mended) _ c.in_ok-m.was,
+      cuts_few _ _ _ _ _ _ _ _ _ c.requires _ (views_room c.view.ensures c.view-2.ensures _ c.cut_room-room.ensures) _ _ _ (rw (c.view-3.ensures.numbers_value, c.view-3.ensures.count_value) at c.mend_closed.ensures.mended) _ c.in_ok-m.was,
       (accepted _ _ _ _ _ _ _ _ _ c.requires).edges.below,
     )
 
 pub returns-clause-outcome : goal.returns-clause-outcome
 returns-clause-outcome c =
     rw (c.add_edges.ensures.same_vertices.count, c.add_edges.ensures.same_edges.count)
-    (outcome_done _ _ _ _ _ _ _ _ _ c.requires _ (λ k. rw (c.view.ensures.numbers_value, c.view.ensures.floats_value, c.view.ensures.count_value, c.view-2.ensures.numbers_value, c.view-2.ensures.floats_value, c.view-2.ensures.count_value) at c.cut_room-room.ensures k) _ _ _ (rw (c.view-3.ensures.numbers_value, c.view-3.ensures.count_value) at c.mend_closed.ensures.mended) _ c.in_ok-m.was _ _ _ _ c.add_edges.ensures.added)
+    (outcome_done _ _ _ _ _ _ _ _ _ c.requires _ (views_room c.view.ensures c.view-2.ensures _ c.cut_room-room.ensures) _ _ _ (rw (c.view-3.ensures.numbers_value, c.view-3.ensures.count_value) at c.mend_closed.ensures.mended) _ c.in_ok-m.was _ _ _ _ c.add_edges.ensures.added)

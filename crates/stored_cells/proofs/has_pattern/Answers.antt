@@ -1,8 +1,9 @@
-use mathlib.Core.Path.{◌≡◌, refl, sym, ◌∙◌}
+use mathlib.Core.Path.{◌≡◌, refl, sym, ap, ◌∙◌}
 use mathlib.Core.Bool.{Bool, true, false, not}
 use Rattle.std.proofs.Common.{inl, inr}
 use lib.Dec.{T}
-use lib.Ieee.{Float, nan, inf, fin, is_nan, eq}
+use lib.Ieee.{Float, nan, inf, fin, binary64, is_nan, eq}
+use lib.Ieee.Bits.{nan_bits_is}
 use Rattle.std.proofs.lemmas.Float.{le_refl, lt-or-eq, lt_irrefl}
 use Rattle.stored_cells.specs.Floats.{has_pattern}
 use Rattle.stored_cells.proofs.has_pattern.Goals as goal
@@ -24,7 +25,9 @@ equals x h = elim (lt-or-eq x x (le_refl x h)) [ inl l ↦ absurd (lt_irrefl x l
 
 pub returns-then-is_nan : goal.returns-then-is_nan
 unfolding has_pattern
-returns-then-is_nan c = rw (differs c.args.x (sym c.is_nan.ensures.value ∙ c.if-is_nan.true)) c.is_nan_pattern.ensures
+returns-then-is_nan c =
+    rw (differs c.args.x (sym c.is_nan.ensures.value ∙ c.if-is_nan.true))
+    (c.is_nan-then-is_nan.ensures.value ∙ ap is_nan c.f64_from_bits_with_nan.ensures ∙ sym (nan_bits_is binary64 c.args.bits))
 
 pub returns : goal.returns
 unfolding has_pattern

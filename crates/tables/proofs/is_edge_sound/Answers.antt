@@ -1,12 +1,13 @@
 use native.Mathlib.Omega.{arith}
-use Rattle.checks.proofs.Sound.{no, edge_sound}
+use mathlib.Core.Bool.{false≢true}
+use Rattle.checks.proofs.Sound.{edge_sound}
 use Rattle.tables.proofs.is_edge_sound.Goals as goal
 
 pub returns-then-numbers-a : goal.returns-then-numbers-a
-returns-then-numbers-a c = λ e. no e
+returns-then-numbers-a c = λ e. absurd (false≢true e)
 
 pub returns-then-numbers-a-2 : goal.returns-then-numbers-a-2
-returns-then-numbers-a-2 c = λ e. no e
+returns-then-numbers-a-2 c = λ e. absurd (false≢true e)
 
 pub returns : goal.returns
 returns c = λ e v h.

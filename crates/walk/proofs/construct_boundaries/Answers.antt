@@ -1,6 +1,8 @@
-use Rattle.std.proofs.Common.{◌<◌, length, sym, ◌∙◌, refl, arith}
+use Rattle.std.proofs.Common.{rules, ◌<◌, length, sym, ◌∙◌, refl, arith}
 use Rattle.lists.proofs.Chains.{lists_all}
-use Rattle.walk.proofs.Small.{zeros, front_small, back_small}
+use Prim.Native.Nat.{ℕ}
+use Rattle.compress.proofs.Cells.{all_alike}
+use Rattle.walk.proofs.Small.{front_small, back_small}
 use Rattle.walk.proofs.Walks.{between_start, between_some, between_done, between_begin, along_on, along_stop, along_close, found}
 use Rattle.walk.proofs.construct_boundaries.Goals as goal
 
@@ -8,8 +10,8 @@ pub walk-init : goal.walk-init
 walk-init c =
     let S = c.requires.sound in
     let e = c.create_vemap.ensures in
-    between_start (rw (e.head_after, e.next_after) (lists_all _ _ _ _ refl refl (zeros 4096) (zeros 1024) S.few (front_small S)))
-    c.requires.made_len c.requires.sizes_len
+    between_start (rw (e.head_after, e.next_after) (lists_all _ _ _ _ refl refl (all_alike {A = ℕ} 0 4096) (all_alike {A = ℕ} 0 1024) S.few (front_small S)))
+    (search rules) (search rules)
 
 pub unwrap-start-requires : goal.unwrap-start-requires
 unwrap-start-requires c =

@@ -1,12 +1,13 @@
-use mathlib.Core.Path.{sym}
-use native.Mathlib.Omega.{arith}
-use Rattle.compress.proofs.Wires.{total_more, total_none}
+use Rattle.std.proofs.Common.{rules, arith, ◌≡◌}
+use Rattle.std.specs.Prelude.{sum}
+use Rattle.std.proofs.iter.runs.Sources.{words_Small}
+use Rattle.rows.proofs.Totals.{total_is_sum}
 use Rattle.rows.proofs.lent.sum_of.Goals as goal
 
-pub loop-n-init : goal.loop-n-init
-loop-n-init c = (sym (total_none c.args.lengths.now), omega arith)
+pub returns-clause-value : goal.returns-clause-value
+returns-clause-value c = rw (total_is_sum c.args.lengths.now) (search rules)
 
-pub loop-n-preserved : goal.loop-n-preserved
-loop-n-preserved c =
-    let l = c.loop-n in
-    (omega (arith, total_more c.args.lengths.now l.n-index c.loop-n-test.true, l.invariant), omega (arith, c.type_inv.lengths l.n-index, l.invariant))
+pub returns-clause-bound : goal.returns-clause-bound
+returns-clause-bound c =
+    let e : c.sum.result ≡ sum c.args.lengths.now = search rules in
+    omega (arith, e, (words_Small c.args.lengths.now c.type_inv.lengths).1)

@@ -1,7 +1,0 @@
-use mathlib.Core.Path.{sym}
-use lib.Ieee.{binary64}
-use lib.Ieee.Bits.{nan_bits_above}
-use Rattle.stored_cells.proofs.is_nan_pattern.Goals as goal
-
-pub returns : goal.returns
-returns c = sym (nan_bits_above binary64 c.args.bits)
