@@ -204,8 +204,8 @@ fn curve_of(kind: u32, number: u32, p: Uv, q: Uv, t0: f64, t1: f64) -> Curve
     }
 }
 
-// The curve of a kind and a number, with its floats from place j on. A slice and a place, here and in `rows`, `tables` and `loops`: a part of the slice
-// would be named at each call by that place and a length.
+// The curve of a kind and a number, with its floats from place j on. A slice and a place, here and in `rows` and `tables`: a part of the slice would
+// be named at each call by that place and a length.
 fn curve_at(kind: u32, number: u32, floats: &[f64], j: usize) -> Curve
     requires { j + 6 ≤ length floats.now }
     ensures { result ≡ curve_at kind number floats.now j }
@@ -215,8 +215,7 @@ fn curve_at(kind: u32, number: u32, floats: &[f64], j: usize) -> Curve
     curve_of(kind, number, p, q, floats[j + 4], floats[j + 5])
 }
 
-// The edge of row i. Here, as `vertex_at` is, beside the definition of its row, a public name that stood before the trait `rows::tables::Row`, which picks
-// one of the two by the record.
+// The edge of row i. Here, as `vertex_at` is, below the trait `rows::tables::Row`, since `front_at` reads a row too.
 pub fn edge_at(numbers: &[u32], floats: &[f64], i: usize) -> Edge
     requires { HasRow 4 6 numbers.now floats.now i }
     ensures { result ≡ edge_at numbers.now floats.now i }

@@ -63,7 +63,7 @@ impl EdgeCuts<'_> {
 // ---- the tables
 
 // Edge i is cut as the cut says, by the next vertex, and its second half becomes the next edge. The counts of the tables stay as they were lent:
-// rows are written past them, and the caller says what the counts become. Three lines are as in `add_edges`: a function of them would have its four clauses
+// rows are written past them, and the caller says what the counts become. Three lines are as in `add_edges`: a function of them would have its six clauses
 // again.
 pub fn put_cut(vertices: &mut TableMut<Vertex>, edges: &mut TableMut<Edge>, i: usize, c: Cut)
     requires vertex_row { let v = vertices.old in

@@ -35,6 +35,7 @@ fn forget(wire: &[u32], from: usize, places: &mut [Option<u16>])
 
 // `find_loop`: the first place from `from` on whose edge stood at an earlier place from `from` on, and the latest such place.
 // Entry e of `places` is lent for the latest place of edge e. What the table held before does not matter.
+// The whole wire and a place, since the places of the answer count from its start.
 #[tactic(auto, using(crate::proofs::Search::searching))]
 pub fn find_loop(wire: &[u32], from: usize, places: &mut [Option<u16>]) -> Option<Pair>
     requires from_in_bounds { (from ≤ length wire.now) × (length wire.now ≤ 1024) }

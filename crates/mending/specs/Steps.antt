@@ -5,8 +5,8 @@ use Rattle.compress.specs.Shell.{uses_fit}
 use Rattle.compress.specs.Wires.{total, uses_of, lengths_of, over}
 use Rattle.mending.specs.declared.NoRoom.{NoRoom}
 
--- each entry that is there is the number of an edge, which a use can name: a clause of three functions of this crate and no type, which two callers would
--- make to have it taken apart
+-- each entry that is there is the number of an edge, which a use can name: a clause of four functions of this crate, of one by `Replaceable`, and no type,
+-- which two callers would make to have it taken apart
 abbrev pub AreNumbers : List (Option ℕ) → Type 0
 AreNumbers added = (k : ℕ) → IfSome (get_or added k None) (λ m. m < 2147483648)
 

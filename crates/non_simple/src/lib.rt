@@ -76,7 +76,8 @@ fn wire_divisor(
 
 // ---- all wires
 
-// The wires in order, until one of them answers or is refused.
+// The wires in order, until one of them answers or is refused. That they have no cause is a clause: this function alone asks it, and a type would be
+// made in one place.
 #[tactic(auto, using(crate::proofs::Scanning::scanning))]
 fn search_wires(
     tables: &SoundTables,

@@ -148,7 +148,7 @@ fn along(p: Uv, q: Uv, du: f64, vp: Option<f64>, best: Uv) -> Uv
     later_along(p, q, du, vp, first)
 }
 
-// The first shifts stand apart from the later ones: a fold over all took 709 instructions at two periods, and this takes 496 (measured).
+// The first shifts stand apart from the later ones: a fold over all took 709 instructions at two periods where this took 496 (measured by callgrind).
 fn copy_nearest(p: Uv, q: Uv, up: Option<f64>, vp: Option<f64>) -> Uv
     ensures { result ≡ nearest_copy_of p q up vp }
 {

@@ -14,7 +14,7 @@ use replay_tally::{Part, Run};
 use stored::{Damaged, Reader};
 
 // Replays the call with this number. A list with any other number is damaged.
-// The numbers are matched where they are read, since each arm reads another record. The names in `replay_tally` are in this order: an enum of the calls
+// The number is matched here, since each arm reads another record. The names in `replay_tally` are in this order: an enum of the calls
 // with TryFrom and Display would be four lists of ten in place of the two. No table of functions: none may take a `Reader`, which holds a reference.
 fn replay(list: &mut Reader<'_>, number: u64) -> Result<(), Damaged>
     ensures compares { Compares list.old list.new }

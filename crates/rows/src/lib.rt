@@ -56,7 +56,7 @@ fn put_curve(floats: &mut [f64], j: usize, c: Curve)
     }
 }
 
-// The edge e is written to row i. Beside the trait `tables::Row`, as `put_vertex` is: a public name that stood before it, and its proof with it.
+// The edge e is written to row i. Beside the trait `tables::Row`, as `put_vertex` is: its answers lie by its name, and in the impl would be no fewer.
 pub fn put_edge(numbers: &mut [u32], floats: &mut [f64], i: usize, e: Edge)
     requires { HasRow 4 6 numbers.old floats.old i }
     ensures numbers_after { numbers.new ≡ put edge_number_layout numbers.old i e }

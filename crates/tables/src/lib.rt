@@ -42,7 +42,7 @@ pub fn vertex_row(vertices: &Table<Vertex>, i: usize) -> Checked
 }
 
 // ---- the first pass: tests that only say yes or no. After a yes a table is not read again; after a no its rows tell the cause. Beside the causes for
-// speed, measured: full tables take 197,029 instructions with it, and 592,178 by the causes alone (docs/PERFORMANCE.md).
+// speed, measured: full tables took 197,029 instructions with it, and 592,178 by the causes alone (docs/PERFORMANCE.md, "The first pass").
 
 // Three comparisons: -1.0e15 is at most t0, t0 at most t1, t1 at most 1.0e15. So both are sized.
 fn is_range_sound(t0: f64, t1: f64) -> bool
