@@ -5,7 +5,7 @@
 use compress::{Refusal, Uv};
 use rows::lent::{Stretch, Wires, WiresMut};
 use rows::tables::{Table, TableMut};
-use seams::Divisor;
+use split::seams::Divisor;
 use std::io;
 use wire_kinds::BoundaryType;
 

@@ -11,24 +11,24 @@ use Rattle.compress.specs.Records.{closed, front_of, back_of, front_at, back_at}
 use Rattle.compress.specs.Said.{Said, result, none, refused}
 use Rattle.compress.specs.Shell.{Shell}
 use Rattle.checks.specs.Causes.{lower_of, float_cause, period_cause, uv_cause}
-use Rattle.cut_edge.specs.Cut.{middle_of, halves_of, pending_of}
-use Rattle.add_edges.specs.Add.{kept_edges, new_edges, new_vertices, added_to}
-use Rattle.mending.specs.Replace.{replace_use, replace_edges, replace_wires}
+use Rattle.cutting.specs.cut_edge.Cut.{middle_of, halves_of, pending_of}
+use Rattle.split_closed_edges.specs.add_edges.Add.{kept_edges, new_edges, new_vertices, added_to}
+use Rattle.cutting.specs.mending.Replace.{replace_use, replace_edges, replace_wires}
 use Rattle.split_closed_edges.specs.Pass.{split_closed_edges}
 use Rattle.compress.specs.Choice.{smaller}
 use Rattle.periodic.specs.Unwrap.{away_from, nearest_of, unwrapped, period_cause_of, unwrap_cause, get_mindiff}
-use Rattle.nearest.specs.declared.Ends.{Ends}
+use Rattle.correction.specs.declared.nearest.Ends.{Ends}
 use Rattle.compress.specs.Points.{point_of}
-use Rattle.nearest.specs.Ends.{point_gap, gap_from, fronts_of, nearest_front, nearest_ends}
-use Rattle.wires.specs.Turn.{turned}
-use Rattle.loops.specs.Loop.{nothing, insert, searched, first_repeat}
-use Rattle.divisor.specs.Divided.{second_pair, divided_by, turned_divisor}
-use Rattle.non_simple.specs.Divisor.{wire_divisor, find_divisor}
+use Rattle.correction.specs.nearest.Ends.{point_gap, gap_from, fronts_of, nearest_front, nearest_ends}
+use Rattle.rows.specs.wires.Turn.{turned}
+use Rattle.non_simple.specs.loops.Loop.{nothing, insert, searched, first_repeat}
+use Rattle.non_simple.specs.divisor.Divided.{second_pair, divided_by, turned_divisor}
+use Rattle.non_simple.specs.Search.{wire_divisor, find_divisor}
 use Rattle.periodic.specs.Copies.{nearest_copy_of, copy_cause, nearest_copy_said}
 use Rattle.walk.specs.Walk.{Answer}
 use Rattle.walk.specs.Table.{steps, opened, table_walk}
-use Rattle.seams.specs.Seams.{seam_of, seams_of}
-use Rattle.marks.specs.Marks.{new_uses, occurs, marked_by}
+use Rattle.split.specs.seams.Seams.{seam_of, seams_of}
+use Rattle.walk.specs.marks.Marks.{new_uses, occurs, marked_by}
 use Rattle.split.specs.Split.{edges_after, split_wires}
 use Rattle.split.specs.Split as split
 use Rattle.split.specs.Examples as splits

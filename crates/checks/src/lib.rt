@@ -2,6 +2,9 @@
 // Each check answers for all numbers: nothing, or the refusal whose number is a definition of specs/Causes.
 #![tactic(auto)]
 
+pub mod points;
+pub mod tables;
+
 ghost use Rattle.std.specs.Prelude.{◌≡◌, true, ℕ, ◌+◌, ◌/◌, ◌≤◌, ◌<◌, length, take, ltb};
 ghost use Rattle.compress.specs.Records.{pick};
 ghost use Rattle.compress.specs.Refusals.{refusal_number, cause_of};
@@ -103,7 +106,7 @@ pub fn period(p: f64) -> Checked
 }
 
 // The number itself where it fits, else the largest that does: a name for std's two calls, with the clause that its callers cite.
-pub fn narrow(n: usize) -> u32
+fn narrow(n: usize) -> u32
     ensures { result ≡ pick (ltb 4294967295 n) 4294967295 n }
 {
     u32::try_from(n).unwrap_or(u32::MAX)

@@ -13,9 +13,9 @@ use Rattle.compress.proofs.Refused.{said_refused, said_checked}
 use Rattle.checks.specs.Causes.{uses_cause, vertex_number_cause}
 use Rattle.checks.proofs.Accepted.{passed, not_when, uses_in}
 use Rattle.checks.proofs.Lowest.{lower_none}
-use Rattle.points.proofs.Accepted.{TablesAccepted, tables_accepted}
+use Rattle.checks.proofs.points.Accepted.{TablesAccepted, tables_accepted}
 use Rattle.correction.specs.Correction.{stretches_cause, ends_cause}
-use Rattle.points.specs.Tables.{tables_cause}
+use Rattle.checks.specs.points.Tables.{tables_cause}
 
 -- a stretch without a cause: its front of n uses
 pub record Stretch (e : ℕ) (us : List ℕ) (n : ℕ) : Type 0 where

@@ -4,9 +4,9 @@ use Rattle.compress.specs.Records.{pick}
 use Rattle.compress.specs.Rows.{edge_at, vertex_at}
 use Rattle.compress.specs.Said.{Said, refused_or}
 use Rattle.checks.specs.Causes.{lower_of, uses_cause, vertex_number_cause}
-use Rattle.points.specs.Tables.{tables_cause}
-use Rattle.nearest.specs.declared.Ends.{Ends}
-use Rattle.nearest.specs.Ends.{nearest_ends}
+use Rattle.checks.specs.points.Tables.{tables_cause}
+use Rattle.correction.specs.declared.nearest.Ends.{Ends}
+use Rattle.correction.specs.nearest.Ends.{nearest_ends}
 
 -- two stretches of n and m uses: "a count .. is above what was lent", "1,024 uses in all wires of a call", and their edge numbers
 unfoldable pub stretches_cause : ℕ → List ℕ → ℕ → List ℕ → ℕ → ℕ

@@ -1,14 +1,16 @@
 // Document 000, `split_closed_faces.rs`: the call `nearest_correction`, with what it refuses.
 #![tactic(auto)]
 
+pub mod nearest;
+
 ghost use Rattle.std.specs.Prelude.{◌≡◌};
 ghost use Rattle.compress.specs.Refusals.{cause_of};
 ghost use Rattle.compress.specs.Said.{said_if};
 ghost use Rattle.correction.specs.Correction.{stretches_cause, ends_cause, nearest_correction};
 
+use crate::nearest::Ends;
+use crate::nearest::sound::SoundTables;
 use compress::{Checked, Refusal};
-use nearest::Ends;
-use nearest::sound::SoundTables;
 use rows::lent::Stretch;
 use rows::tables::Tables;
 
@@ -28,7 +30,7 @@ fn ends_cause(tables: &Tables, first: &Stretch, second: &Stretch, v0: u32) -> Ch
         cause_of result ≡ ends_cause v.numbers.now v.floats.now e.numbers.now e.floats.now
         first.now.uses.now second.now.uses.now v.count e.count first.now.count second.now.count v0 }
 {
-    let t = points::tables_cause(tables);
+    let t = checks::points::tables_cause(tables);
     let w = stretches_cause(tables.edges.count, first, second);
     let v = checks::vertex_number(tables.vertices.count, v0);
     checks::lower(t, checks::lower(v, w))

@@ -16,9 +16,9 @@ use Rattle.compress.specs.Rows.{edge_at}
 use Rattle.compress.specs.Shell.{Shell, load}
 use Rattle.compress.specs.Wires.{total, wires_of}
 use Rattle.compress.proofs.Layouts.{length_rows}
-use Rattle.wires.specs.Connected.{replaced}
-use Rattle.wires.proofs.Replaced.{Leads, leads_one, leads_two, replaced_connected, replaced_closed}
-use Rattle.mending.specs.Replace.{replace_use, replace_edges, replace_wires}
+use Rattle.rows.specs.wires.Connected.{replaced}
+use Rattle.rows.proofs.wires.Replaced.{Leads, leads_one, leads_two, replaced_connected, replaced_closed}
+use Rattle.cutting.specs.mending.Replace.{replace_use, replace_edges, replace_wires}
 use Rattle.cutting.specs.Keeps.{edge_in, wire_in, UsesKnown, Keeps}
 use Rattle.cutting.specs.Contract.{lent_of, input_cause}
 use Rattle.cutting.proofs.Outcome.{accepted}

@@ -23,8 +23,8 @@ use Rattle.compress.proofs.Rows.{vertex_numbers_stand, vertex_floats_stand}
 use Rattle.checks.specs.Causes.{vertices_cause, edges_cause, wires_cause}
 use Rattle.checks.proofs.Accepted.{VerticesAccepted, EdgesAccepted, WiresAccepted, vertices_accepted, edges_accepted, wires_accepted}
 use Rattle.checks.proofs.Lowest.{lower_none}
-use Rattle.mending.specs.declared.NoRoom.{NoRoom}
-use Rattle.mending.specs.Steps.{InPlace, count_told}
+use Rattle.cutting.specs.declared.mending.NoRoom.{NoRoom}
+use Rattle.cutting.specs.mending.Steps.{InPlace, count_told}
 use Rattle.cutting.specs.Contract.{Outcome, lent_of, leaves, input_cause, result_of, cause_or}
 
 -- a cause: its refusal, and nothing written

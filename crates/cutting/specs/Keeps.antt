@@ -3,7 +3,7 @@ use Rattle.std.specs.Prelude.{List, [], ℕ, ◌<◌, length, get_or}
 use Rattle.compress.specs.declared.Edge.{Edge}
 use Rattle.compress.specs.Records.{edge_of_use, front_at, back_at}
 use Rattle.compress.specs.Shell.{Shell}
-use Rattle.wires.specs.Connected.{Connected, Closed}
+use Rattle.rows.specs.wires.Connected.{Connected, Closed}
 
 -- edge number i of a shell, and d where there is none
 abbrev pub edge_in : Edge → Shell → ℕ → Edge

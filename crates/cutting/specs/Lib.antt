@@ -1,3 +1,5 @@
 pub mod Keeps
 pub mod Contract
 pub mod Lent
+pub mod cut_edge
+pub mod mending

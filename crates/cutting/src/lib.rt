@@ -1,6 +1,9 @@
 // What the calls that cut edges share: their answer, causes 1 to 5 over all that they are lent, and how many cuts the tables have room for.
 #![tactic(auto)]
 
+pub mod cut_edge;
+pub mod mending;
+
 ghost use Rattle.std.specs.Prelude.{◌≡◌, ◌&&◌, ℕ, ◌+◌, ◌*◌, ◌≤◌, leb, length};
 ghost use Rattle.compress.specs.Refusals.{cause_of};
 ghost use Rattle.compress.specs.Shell.{vertices_fit, edges_fit};
@@ -18,8 +21,8 @@ pub fn input_cause(vertices: &Table<Vertex>, edges: &Table<Edge>, wires: &Wires)
         cause_of result ≡ input_cause
         (lent_of v.numbers.now v.floats.now e.numbers.now e.floats.now w.uses.now w.lengths.now v.count e.count w.count) }
 {
-    let v = tables::vertices(vertices);
-    let e = tables::edges(vertices.count, edges);
+    let v = checks::tables::vertices(vertices);
+    let e = checks::tables::edges(vertices.count, edges);
     let w = checks::wires(edges.count, wires);
     checks::lower(v, checks::lower(e, w))
 }

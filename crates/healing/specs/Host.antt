@@ -5,10 +5,10 @@ use Rattle.compress.specs.Said.{Said, result, none, refused, on_result}
 use Rattle.compress.specs.declared.Counts.{Counts}
 use Rattle.compress.specs.Shell.{Slices}
 use Rattle.cutting.specs.Contract.{Outcome}
-use Rattle.joined.specs.Outcome.{JoinOutcome}
+use Rattle.join.specs.joined.Outcome.{JoinOutcome}
 use Rattle.split.specs.declared.Boundaries.{Boundaries}
 use Rattle.split.specs.Contract.{SplitOutcome}
-use Rattle.split_causes.specs.Causes.{Buffers}
+use Rattle.split.specs.split_causes.Causes.{Buffers}
 use Rattle.wire_kinds.specs.declared.BoundaryType.{BoundaryType}
 use Rattle.wire_kinds.specs.Kinds.{boundary_number, SortOutcome, boundary_type_said}
 

@@ -4,7 +4,7 @@ ghost use Rattle.compress.specs.Said.{said_of, said_if};
 ghost use Rattle.healing.specs.Host.{Told, code_of, uv_of};
 
 use compress::{Counts, Refusal, Uv};
-use nearest::Ends;
+use correction::nearest::Ends;
 use split::Boundaries;
 
 // 0 for a result, else the number of the refusal. No `From`, which would be between two types of other crates.

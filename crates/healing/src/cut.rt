@@ -4,7 +4,7 @@ ghost use Rattle.one_cut.specs.Contract.{cut_outcome};
 ghost use Rattle.healing.specs.Host.{HostShell, slices_of};
 
 use crate::codes;
-use cuts::EdgeCuts;
+use one_cut::cuts::EdgeCuts;
 use rows::lent::WiresMut;
 use rows::tables::TableMut;
 

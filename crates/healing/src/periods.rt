@@ -1,10 +1,10 @@
 // The calls for hosts that take periods: unwrapping and the nearest copy. A period is lent as a kind, 0 absent and 1 given, and a number.
-ghost use Rattle.host_numbers.specs.Numbers.{host_mindiff, host_copy};
+ghost use Rattle.periodic.specs.host_numbers.Numbers.{host_mindiff, host_copy};
 ghost use Rattle.healing.specs.Host.{Told, uv_of};
 
 use crate::codes;
 use compress::Uv;
-use host_numbers::LentPeriod;
+use periodic::host_numbers::LentPeriod;
 
 // u, moved by whole periods to where it is nearest to u0. 0: done, and `out` holds the number.
 // Else the number of the refusal, and `out` is not changed.
@@ -22,7 +22,7 @@ pub extern "C" fn kaugrenna_get_mindiff(
         kind: period_kind,
         number: period,
     };
-    codes::tell(host_numbers::unwrap_asked(u, u0, period), out)
+    codes::tell(periodic::host_numbers::unwrap_asked(u, u0, period), out)
 }
 
 // Of the copies of q, moved by whole periods, the first that is nearest to p. 0: done, and the two places hold the copy.
@@ -53,5 +53,5 @@ pub extern "C" fn kaugrenna_nearest_copy(
         kind: v_kind,
         number: v_period,
     };
-    codes::tell_uv(host_numbers::copy_asked(p, q, u, v), u_out, v_out)
+    codes::tell_uv(periodic::host_numbers::copy_asked(p, q, u, v), u_out, v_out)
 }

@@ -1,6 +1,6 @@
 // The calls for hosts on wires and vertices: nearest ends, and the non-simple search.
 ghost use Rattle.correction.specs.Correction.{nearest_correction};
-ghost use Rattle.non_simple.specs.Divisor.{find_non_simple};
+ghost use Rattle.non_simple.specs.Search.{find_non_simple};
 ghost use Rattle.healing.specs.Host.{Told};
 
 use crate::codes;

@@ -1,12 +1,12 @@
 // The call for hosts that splits boundaries along a divisor.
-ghost use Rattle.split_causes.specs.Causes.{lent_split};
+ghost use Rattle.split.specs.split_causes.Causes.{lent_split};
 ghost use Rattle.split.specs.Contract.{split_outcome};
 ghost use Rattle.healing.specs.Host.{HostBoundaries};
 
 use crate::codes;
 use rows::lent::Wires;
 use rows::tables::TableMut;
-use seams::Divisor;
+use split::seams::Divisor;
 
 // The wires to be rebuilt are rebuilt along the divisor, a list of vertices with their uv points, two floats each: the new edges are appended to the
 // edge table, and the answered wires go to `uses` and `lengths`. 0: done, and the three places hold the counts of wires, of their uses and of

@@ -25,9 +25,9 @@ use Rattle.compress.specs.Refusals.{refusal_number}
 use Rattle.compress.proofs.Refused.{said_refused, said_checked}
 use Rattle.join.specs.Contract.{join_wires_cause, empty_cause, join_cause, join_outcome}
 use Rattle.join.specs.Join.{connected}
-use Rattle.joined.specs.Outcome.{JoinOutcome, left, left_by}
-use Rattle.laying.specs.Steps.{Readable}
-use Rattle.joined.specs.Steps.{Joinable}
+use Rattle.join.specs.joined.Outcome.{JoinOutcome, left, left_by}
+use Rattle.join.specs.laying.Steps.{Readable}
+use Rattle.join.specs.joined.Steps.{Joinable}
 
 -- uses without a cause
 uses_rows : (v : ℕ) (en : List ℕ) (ef : List Float) (e : ℕ) (us : List ℕ) (n : ℕ) → EdgesAccepted v en ef e → n ≤ length us → uses_cause e us n ≡ 0

@@ -7,10 +7,10 @@ use borrow.Author.Tests.{lt-ltb, le-ltb, eq-eqb, ne_eqb}
 use lib.ListN.{length}
 use Rattle.compress.specs.declared.Edge.{Edge}
 use Rattle.compress.specs.Said.{result, none}
-use Rattle.wires.specs.Turn.{turned}
-use Rattle.laying.specs.Places.{index_of, wire_index_of, place_in}
-use Rattle.laying.proofs.Places.{found_is, found_not}
-use Rattle.joined.specs.Joined.{joined_to}
+use Rattle.rows.specs.wires.Turn.{turned}
+use Rattle.join.specs.laying.Places.{index_of, wire_index_of, place_in}
+use Rattle.join.proofs.laying.Places.{found_is, found_not}
+use Rattle.join.specs.joined.Joined.{joined_to}
 use Rattle.join.specs.Join.{connected_at, connected}
 
 -- ---- the two open wires change places, or not

@@ -16,11 +16,11 @@ use Rattle.compress.specs.Rows.{edge_at}
 use Rattle.compress.specs.Said.{Said, result, none, refused, on_result, refused_or}
 use Rattle.compress.specs.Shell.{uses_fit}
 use Rattle.compress.specs.Wires.{wires_of, uses_of, lengths_of, over}
-use Rattle.wires.specs.Turn.{turned}
-use Rattle.laying.specs.Places.{index_of, wire_index_of, found_before, closed_by}
-use Rattle.joined.specs.Joined.{joined_at, joined_to}
+use Rattle.rows.specs.wires.Turn.{turned}
+use Rattle.join.specs.laying.Places.{index_of, wire_index_of, found_before, closed_by}
+use Rattle.join.specs.joined.Joined.{joined_at, joined_to}
 use Rattle.join.specs.Join.{connected_at, connected}
-use Rattle.joined.specs.Outcome.{JoinOutcome, stored_in, join_leaves}
+use Rattle.join.specs.joined.Outcome.{JoinOutcome, stored_in, join_leaves}
 use Rattle.join.specs.Contract.{join_cause, join_outcome}
 
 -- however far a wire is turned

@@ -5,7 +5,7 @@ use Rattle.compress.specs.Rows.{edge_at}
 use Rattle.compress.specs.Said.{refused_or}
 use Rattle.compress.specs.Wires.{total, wires_of}
 use Rattle.checks.specs.Causes.{when, lower_of, count_cause, vertex_number_cause, edges_cause, uses_cause}
-use Rattle.joined.specs.Outcome.{JoinOutcome, join_leaves}
+use Rattle.join.specs.joined.Outcome.{JoinOutcome, join_leaves}
 use Rattle.join.specs.Join.{connected}
 
 -- ---- causes

@@ -6,9 +6,9 @@ use Rattle.compress.specs.declared.Curve.TheVariants.{Span}
 use Rattle.compress.specs.declared.Edge.{Edge}
 use Rattle.compress.specs.Records.{front_of, front_at}
 use Rattle.compress.specs.Said.{result, none}
-use Rattle.wires.specs.Turn.{turned}
-use Rattle.laying.specs.Places.{index_of, wire_index_of, closed_by}
-use Rattle.joined.specs.Joined.{joined_at, joined_to}
+use Rattle.rows.specs.wires.Turn.{turned}
+use Rattle.join.specs.laying.Places.{index_of, wire_index_of, closed_by}
+use Rattle.join.specs.joined.Joined.{joined_at, joined_to}
 use Rattle.join.specs.Join.{connected_at, connected}
 
 abbrev pub between : ℕ → ℕ → Edge

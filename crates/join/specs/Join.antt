@@ -3,9 +3,9 @@ use Rattle.std.specs.Prelude.{List, [], ◌∷◌, ℕ, eqb, get_or}
 use Rattle.compress.specs.declared.Edge.{Edge}
 use Rattle.compress.specs.Records.{pick}
 use Rattle.compress.specs.Said.{Said, on_result}
-use Rattle.wires.specs.Turn.{turned}
-use Rattle.laying.specs.Places.{index_of, holder_in}
-use Rattle.joined.specs.Joined.{joined_to}
+use Rattle.rows.specs.wires.Turn.{turned}
+use Rattle.join.specs.laying.Places.{index_of, holder_in}
+use Rattle.join.specs.joined.Joined.{joined_to}
 
 -- "Let i be the place (0 or 1) of the first open wire that has v0 as a front, and index its place there. If index is not 0, the two
 -- open wires change places. .. turn the first by i": i and index are interchanged, as in the Rust.

@@ -2,3 +2,5 @@
 pub mod Join
 pub mod Contract
 pub mod Examples
+pub mod joined
+pub mod laying

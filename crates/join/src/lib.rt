@@ -1,18 +1,21 @@
 // Document 01's "Join" (`connect_open_boundaries`): two open wires and one of the new wires become one wire.
 #![tactic(auto)]
 
+mod joined;
+mod laying;
+
 ghost use Rattle.std.specs.Prelude.{◌≡◌, ◌≤◌, ◌<◌, length};
 ghost use Rattle.compress.specs.Refusals.{cause_of};
 ghost use Rattle.rows.specs.Held.{wires_held, edges_in};
 ghost use Rattle.rows.specs.Places.{SameWires};
-ghost use Rattle.joined.specs.Outcome.{left, left_by};
-ghost use Rattle.joined.specs.Steps.{Joinable};
+ghost use Rattle.join.specs.joined.Outcome.{left, left_by};
+ghost use Rattle.join.specs.joined.Steps.{Joinable};
 ghost use Rattle.join.specs.Join.{connected_at, connected};
 ghost use Rattle.join.specs.Contract.{join_wires_cause, empty_cause, join_cause, join_outcome};
 
+use crate::laying::Joint;
+use crate::laying::turned::TurnedWire;
 use compress::{Checked, Edge, Refusal};
-use laying::Joint;
-use laying::turned::TurnedWire;
 use rows::lent::{Stretch, Wires, WiresMut};
 use rows::tables::Table;
 
@@ -113,7 +116,7 @@ fn join_cause(
         vertices e.count a.count b.count w.count v0 v1 }
 {
     let v = checks::count(4096, vertices);
-    let e = tables::edges(vertices, edges);
+    let e = checks::tables::edges(vertices, edges);
     let a = checks::vertex_number(vertices, v0);
     let b = checks::vertex_number(vertices, v1);
     let w = join_wires_cause(edges.count, first, second, wires);

@@ -14,15 +14,15 @@ use Rattle.compress.specs.Records.{pick, front_at}
 use Rattle.compress.specs.Rows.{edge_at, vertex_at}
 use Rattle.compress.specs.Said.{Said, result, none, refused, refused_or}
 use Rattle.compress.specs.Wires.{wires_of}
-use Rattle.wires.specs.Turn.{turned}
-use Rattle.nearest.specs.declared.Ends.{Ends}
-use Rattle.nearest.specs.Ends.{fronts_of, nearest_front, nearest_ends, ends_from}
-use Rattle.nearest.proofs.Laws.{front_member}
+use Rattle.rows.specs.wires.Turn.{turned}
+use Rattle.correction.specs.declared.nearest.Ends.{Ends}
+use Rattle.correction.specs.nearest.Ends.{fronts_of, nearest_front, nearest_ends, ends_from}
+use Rattle.correction.proofs.nearest.Laws.{front_member}
 use Rattle.std.specs.Prelude.{Option, Some, None}
-use Rattle.loops.specs.declared.Pair.{Pair}
-use Rattle.loops.specs.Loop.{first_repeat}
-use Rattle.divisor.specs.Divided.{half_up, second_pair, stretch, divided_by, turned_divisor}
-use Rattle.non_simple.specs.Divisor.{divisor_from, wire_divisor, or_next, find_divisor, search_cause, find_non_simple}
+use Rattle.non_simple.specs.declared.loops.Pair.{Pair}
+use Rattle.non_simple.specs.loops.Loop.{first_repeat}
+use Rattle.non_simple.specs.divisor.Divided.{half_up, second_pair, stretch, divided_by, turned_divisor}
+use Rattle.non_simple.specs.Search.{divisor_from, wire_divisor, or_next, find_divisor, search_cause, find_non_simple}
 
 module _ (es : ℕ → Edge) (vs : ℕ → Vertex) where
   -- vertex v is the front of a use of the wire

@@ -20,14 +20,14 @@ use Rattle.compress.proofs.Refused.{said_refused, said_checked}
 use Rattle.checks.specs.Causes.{wires_cause}
 use Rattle.checks.proofs.Accepted.{wires_accepted, edges_accepted}
 use Rattle.checks.proofs.Lowest.{lower_none}
-use Rattle.points.proofs.Accepted.{TablesAccepted, tables_accepted}
-use Rattle.wires.specs.Turn.{turned}
-use Rattle.wires.proofs.Turns.{length_turned, get_or_turned}
-use Rattle.nearest.specs.declared.Ends.{Ends}
-use Rattle.nearest.specs.declared.sound.SoundTables.{SoundTables}
-use Rattle.divisor.specs.Wires.{IsWire}
-use Rattle.points.specs.Tables.{tables_cause}
-use Rattle.non_simple.specs.Divisor.{wire_divisor, or_next, find_divisor, search_cause}
+use Rattle.checks.proofs.points.Accepted.{TablesAccepted, tables_accepted}
+use Rattle.rows.specs.wires.Turn.{turned}
+use Rattle.rows.proofs.wires.Turns.{length_turned, get_or_turned}
+use Rattle.correction.specs.declared.nearest.Ends.{Ends}
+use Rattle.correction.specs.declared.nearest.sound.SoundTables.{SoundTables}
+use Rattle.non_simple.specs.divisor.Wires.{IsWire}
+use Rattle.checks.specs.points.Tables.{tables_cause}
+use Rattle.non_simple.specs.Search.{wire_divisor, or_next, find_divisor, search_cause}
 
 -- ---- a wire that is turned
 module _ (w : List ℕ) (i : ℕ) (h : i ≤ length w) where

@@ -1,7 +1,7 @@
 -- Worked examples of the search. Assumes nothing.
 use Rattle.std.specs.Prelude.{◌≡◌, refl, List, [], ◌∷◌, ℕ, None}
-use Rattle.wires.specs.Turn.{turned}
-use Rattle.loops.specs.Loop.{nothing, insert, pair, searched, first_repeat}
+use Rattle.rows.specs.wires.Turn.{turned}
+use Rattle.non_simple.specs.loops.Loop.{nothing, insert, pair, searched, first_repeat}
 
 -- the wire of K6: 0+ 1+ 2+
 pub k6 : first_repeat 0 (0 ∷ 2 ∷ 4 ∷ []) ≡ None

@@ -1,3 +1,5 @@
 -- The definitions that the contract of the search cites, with worked examples.
-pub mod Divisor
+pub mod Search
 pub mod Examples
+pub mod divisor
+pub mod loops

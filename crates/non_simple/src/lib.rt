@@ -1,21 +1,24 @@
 // Document 01's "Non-simple wire": the search over all wires for one that uses an edge twice, and where it is divided.
 #![tactic(auto)]
 
+mod divisor;
+mod loops;
+
 ghost use Rattle.std.specs.Prelude.{◌≡◌, ◌-◌, ◌<◌, length};
 ghost use Rattle.compress.specs.Refusals.{cause_of};
 ghost use Rattle.compress.specs.Said.{said_if};
 ghost use Rattle.rows.specs.Held.{vertices_in, edges_in, wires_in};
 ghost use Rattle.checks.specs.Causes.{wires_cause};
-ghost use Rattle.divisor.specs.Divided.{turned_divisor};
-ghost use Rattle.divisor.specs.Wires.{IsWire};
-ghost use Rattle.non_simple.specs.Divisor.{wire_divisor, find_divisor, search_cause, find_non_simple};
-ghost use Rattle.wires.specs.Turn.{turned};
+ghost use Rattle.non_simple.specs.divisor.Divided.{turned_divisor};
+ghost use Rattle.non_simple.specs.divisor.Wires.{IsWire};
+ghost use Rattle.non_simple.specs.Search.{wire_divisor, find_divisor, search_cause, find_non_simple};
+ghost use Rattle.rows.specs.wires.Turn.{turned};
 
+use crate::divisor::doubled::Doubled;
+use crate::loops::Pair;
 use compress::{Checked, Refusal};
-use divisor::doubled::Doubled;
-use loops::Pair;
-use nearest::Ends;
-use nearest::sound::SoundTables;
+use correction::nearest::Ends;
+use correction::nearest::sound::SoundTables;
 use rows::lent::Wires;
 use rows::tables::Tables;
 
@@ -50,7 +53,7 @@ fn turn_and_divide(
         (turned first.earlier wire.now) (first.later - first.earlier) }
 {
     let mut out = [0u32; 1024];
-    wires::rotate_left(wire, first.earlier, &mut out);
+    rows::wires::rotate_left(wire, first.earlier, &mut out);
     let doubled = Doubled {
         wire: &out[..wire.len()],
         j0: first.later - first.earlier,
@@ -59,7 +62,7 @@ fn turn_and_divide(
 }
 
 // `non_simple_wire_divisor`: the two vertices between which a wire that uses an edge twice is to be divided.
-#[tactic(auto, using(loops::proofs::Repeats::pair_in), unfolding(crate::specs::Divisor::wire_divisor))]
+#[tactic(auto, using(crate::proofs::loops::Repeats::pair_in), unfolding(crate::specs::Search::wire_divisor))]
 fn wire_divisor(
     tables: &SoundTables,
     wire: &[u32],
@@ -95,7 +98,7 @@ fn search_wires(
     Ok(None)
 }
 
-#[tactic(auto, unfolding(crate::specs::Divisor::search_cause))]
+#[tactic(auto, unfolding(crate::specs::Search::search_cause))]
 fn search_cause(tables: &Tables, wires: &Wires) -> Checked
     ensures { let v = tables.now.vertices in
         let e = tables.now.edges in
@@ -103,13 +106,13 @@ fn search_cause(tables: &Tables, wires: &Wires) -> Checked
         cause_of result ≡ search_cause v.numbers.now v.floats.now e.numbers.now e.floats.now
         w.uses.now w.lengths.now v.count e.count w.count }
 {
-    let t = points::tables_cause(tables);
+    let t = checks::points::tables_cause(tables);
     let w = checks::wires(tables.edges.count, wires);
     checks::lower(t, w)
 }
 
 // `find_non_simple_wire_divisor`: of the wires in order the first that can be divided, by the two vertices between which it is.
-#[tactic(auto, using(crate::proofs::Scanning::checked), unfolding(crate::specs::Divisor::find_non_simple))]
+#[tactic(auto, using(crate::proofs::Scanning::checked), unfolding(crate::specs::Search::find_non_simple))]
 pub fn find_non_simple_wire_divisor(tables: &Tables, wires: &Wires) -> Result<Option<Ends>, Refusal>
     ensures { let v = tables.now.vertices in
         let e = tables.now.edges in

@@ -16,13 +16,13 @@ use Rattle.compress.specs.Records.{pick, forward}
 use Rattle.compress.specs.Rows.{edge_at}
 use Rattle.compress.specs.Shell.{Shell, load}
 use Rattle.compress.proofs.Layouts.{length_rows, get_d_rows}
-use Rattle.wires.specs.Connected.{replaced}
-use Rattle.cut_edge.specs.Cut.{halves_of}
+use Rattle.rows.specs.wires.Connected.{replaced}
+use Rattle.cutting.specs.cut_edge.Cut.{halves_of}
 use Rattle.cutting.specs.Keeps.{edge_in, wire_in, UsesKnown, Keeps}
-use Rattle.mending.specs.Replace.{replaced_by, replace_use}
+use Rattle.cutting.specs.mending.Replace.{replaced_by, replace_use}
 use Rattle.cutting.specs.Contract.{lent_of}
 use Rattle.cutting.proofs.Keeping.{Halved, keeps, edges_replaced, wire_replaced, lent_known}
-use Rattle.cuts.specs.declared.Cut.{Cut}
+use Rattle.one_cut.specs.declared.cuts.Cut.{Cut}
 use Rattle.one_cut.specs.Cut.{added_at, cut_once}
 use Rattle.one_cut.specs.Contract.{one_cut_cause}
 use Rattle.one_cut.specs.Pieces.{pieces_of}

@@ -17,8 +17,8 @@ use Rattle.compress.specs.Said.{result, refused}
 use Rattle.compress.specs.Layout.{store, put, store_from, rows}
 use Rattle.compress.specs.Shell.{Shell, Lent, load, counts_of, vertices_fit, edges_fit}
 use Rattle.checks.specs.Causes.{wires_cause, edge_number_cause, lower_of, when}
-use Rattle.mending.specs.declared.NoRoom.{NoRoom}
-use Rattle.mending.specs.Steps.{AreNumbers, InPlace, count_told}
+use Rattle.cutting.specs.declared.mending.NoRoom.{NoRoom}
+use Rattle.cutting.specs.mending.Steps.{AreNumbers, InPlace, count_told}
 use Rattle.cutting.proofs.Outcome.{result_full, result_done, Accepted, accepted, vertices_stand, way_cause}
 use Rattle.compress.specs.declared.Curve.{Curve}
 use Rattle.compress.specs.declared.Edge.{Edge}
@@ -36,11 +36,11 @@ use Rattle.compress.proofs.Room.{vertices_room, edges_room}
 use Rattle.compress.proofs.Rows.{edge_numbers_fit, edge_floats_fit, edge_numbers_stand, edge_floats_stand}
 use Rattle.checks.proofs.Accepted.{passed, not_when}
 use Rattle.checks.proofs.Lowest.{lower_none}
-use Rattle.cut_edge.specs.Cut.{halves_of}
-use Rattle.mending.specs.Replace.{replace_wires}
+use Rattle.cutting.specs.cut_edge.Cut.{halves_of}
+use Rattle.cutting.specs.mending.Replace.{replace_wires}
 use Rattle.cutting.specs.Contract.{lent_of, leaves, input_cause}
-use Rattle.cuts.specs.declared.Cut.{Cut}
-use Rattle.cuts.specs.Cuts.{cut_at, cuts_cause}
+use Rattle.one_cut.specs.declared.cuts.Cut.{Cut}
+use Rattle.one_cut.specs.cuts.Cuts.{cut_at, cuts_cause}
 use Rattle.one_cut.specs.Cut.{added_at, cut_once}
 use Rattle.one_cut.specs.Steps.{asks}
 use Rattle.one_cut.specs.Contract.{one_cut_cause, once_outcome, cut_by, cut_outcome}

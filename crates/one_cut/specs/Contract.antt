@@ -8,8 +8,8 @@ use Rattle.compress.specs.Said.{result, refused}
 use Rattle.compress.specs.Shell.{Lent, load, counts_of}
 use Rattle.checks.specs.Causes.{lower_of, edge_number_cause}
 use Rattle.cutting.specs.Contract.{Outcome, input_cause, result_of, cause_or}
-use Rattle.cuts.specs.declared.Cut.{Cut}
-use Rattle.cuts.specs.Cuts.{cut_at, cuts_cause}
+use Rattle.one_cut.specs.declared.cuts.Cut.{Cut}
+use Rattle.one_cut.specs.cuts.Cuts.{cut_at, cuts_cause}
 use Rattle.one_cut.specs.Cut.{cut_once}
 
 -- ---- causes

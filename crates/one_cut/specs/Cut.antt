@@ -3,9 +3,9 @@ use Rattle.std.specs.Prelude.{Option, Some, None, List, [], ◌∷◌, ◌++◌,
 use Rattle.compress.specs.declared.Edge.{Edge}
 use Rattle.compress.specs.Points.{given}
 use Rattle.compress.specs.Shell.{Shell}
-use Rattle.cut_edge.specs.Cut.{halves_of}
-use Rattle.mending.specs.Replace.{replace_wires}
-use Rattle.cuts.specs.declared.Cut.{Cut}
+use Rattle.cutting.specs.cut_edge.Cut.{halves_of}
+use Rattle.cutting.specs.mending.Replace.{replace_wires}
+use Rattle.one_cut.specs.declared.cuts.Cut.{Cut}
 
 -- the map of the closed-edge pass where of n edges just edge i is cut, and m is cut off it
 unfoldable pub added_at : ℕ → ℕ → ℕ → List (Option ℕ)

@@ -5,8 +5,8 @@ use Rattle.std.specs.Float.Ieee.{of_bits}
 use Rattle.compress.specs.declared.Curve.TheVariants.{Span}
 use Rattle.compress.specs.declared.Edge.{Edge}
 use Rattle.compress.specs.declared.Vertex.TheVariants.{Given}
-use Rattle.cut_edge.specs.Cut.{halves_of}
-use Rattle.mending.specs.Replace.{replace_use, replace_edges, replace_wires}
+use Rattle.cutting.specs.cut_edge.Cut.{halves_of}
+use Rattle.cutting.specs.mending.Replace.{replace_use, replace_edges, replace_wires}
 use Rattle.one_cut.specs.Cut.{added_at, cut_once}
 
 abbrev pub zero64 : Float

@@ -4,3 +4,4 @@ pub mod Pieces
 pub mod Contract
 pub mod Steps
 pub mod Examples
+pub mod cuts

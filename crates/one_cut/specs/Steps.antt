@@ -5,7 +5,7 @@ use Rattle.compress.specs.Refusals.{refusal_number}
 use Rattle.compress.specs.Said.{result, refused}
 use Rattle.compress.specs.Shell.{Lent, load, counts_of}
 use Rattle.cutting.specs.Contract.{input_cause}
-use Rattle.cuts.specs.declared.Cut.{Cut}
+use Rattle.one_cut.specs.declared.cuts.Cut.{Cut}
 use Rattle.one_cut.specs.Contract.{once_outcome, cut_outcome}
 
 -- A refusal, or no cut, is the outcome, with every slice as it was; else the shell and the edge number have no cause, and the outcome is that of

@@ -2,30 +2,32 @@
 // are mended.
 #![tactic(auto)]
 
+pub mod cuts;
+
 ghost use Rattle.std.specs.Prelude.{◌≡◌, ◌≤◌, ◌<◌, leb, get_or};
 ghost use Rattle.std.specs.Float.{nan};
 ghost use Rattle.compress.specs.Refusals.{cause_of};
 ghost use Rattle.rows.specs.Held.{wires_held};
 ghost use Rattle.rows.specs.Places.{SameTable, SameWires};
 ghost use Rattle.checks.specs.Causes.{wires_cause};
-ghost use Rattle.mending.specs.Replace.{replace_wires};
-ghost use Rattle.mending.specs.Steps.{InPlace};
+ghost use Rattle.cutting.specs.mending.Replace.{replace_wires};
+ghost use Rattle.cutting.specs.mending.Steps.{InPlace};
 ghost use Rattle.cutting.specs.Contract.{input_cause};
 ghost use Rattle.cutting.specs.Lent.{lent, left};
 ghost use Rattle.one_cut.specs.Cut.{added_at};
 ghost use Rattle.one_cut.specs.Contract.{one_cut_cause, once_outcome, cut_outcome};
 ghost use Rattle.one_cut.specs.Steps.{asks};
 
+use crate::cuts::{Cut, EdgeCuts};
 use compress::{Checked, Counts, Edge, Refusal, Vertex};
-use cuts::{Cut, EdgeCuts};
-use mending::NoRoom;
+use cutting::mending::NoRoom;
 use rows::lent::WiresMut;
 use rows::tables::TableMut;
 
 // ---- causes
 
 // Cell i, and NaN past the end, as the definition of the causes has it: the edge's number is then past the table too, which is the lower cause.
-// `notation::at` is the same of numbers, for the programs: one function for both would be std's two calls again.
+// `pipe_shell::notation::at` is the same of numbers, for the programs: one function for both would be std's two calls again.
 fn float_at(floats: &[f64], i: usize) -> f64
     ensures { result ≡ get_or floats.now i nan }
 {
@@ -86,7 +88,7 @@ fn mend_within<const N: usize>(
 {
     let mut added = [None; N];
     added[i] = Some(edges as u32);
-    mending::mend_wires(wires, &added[..edges], 1 <= room)
+    cutting::mending::mend_wires(wires, &added[..edges], 1 <= room)
 }
 
 // The same by a table that is large enough: few edges have a small one, since to fill it takes time.

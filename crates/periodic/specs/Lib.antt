@@ -1,2 +1,3 @@
 pub mod Unwrap
 pub mod Copies
+pub mod host_numbers

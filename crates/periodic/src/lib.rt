@@ -1,6 +1,8 @@
 // Document 000, `split_closed_faces.rs`: unwrapping and nearest copy. A period is absent, or a number above 0.
 #![tactic(auto)]
 
+pub mod host_numbers;
+
 ghost use Rattle.std.specs.Prelude.{◌≡◌, Float};
 ghost use mathlib.Core.List.{foldl};
 ghost use Rattle.compress.specs.declared.Uv.{Uv};

@@ -2,20 +2,35 @@
 // a call of the port, and what it answers is written in the notation of document 01.
 #![tactic(auto)]
 
-use pipe_shell::{Stop, writing};
+mod pipe_ends;
+mod pipe_join;
+mod pipe_rims;
+mod pipe_seam;
+
+use pipe_shell::{Shell, Stop, pipe_tally, writing};
 use std::io;
 
-// The way of the pipe: the rims are cut and joined with a seam to one wire, which is divided along the vertices that the search finds.
-fn heal(rt: &impl Print) -> Result<(), Stop> {
-    let pipe = pipe_shell::burner_pipe();
-    writing::write_shell(rt, &pipe, 0)?;
-    let cut = pipe_rims::cut_rims(rt, &pipe)?;
+// The rims are cut and joined with a seam to one wire.
+fn join(rt: &impl Print, pipe: &Shell) -> Result<Shell, Stop> {
+    let cut = pipe_rims::cut_rims(rt, pipe)?;
     pipe_ends::sort(rt, &cut)?;
     let ends = pipe_ends::nearest_ends(rt, &cut)?;
     let seamed = pipe_seam::split_seam(rt, &cut, ends)?;
-    let joined = pipe_join::join_rims(rt, &cut.wires, &seamed, ends)?;
-    let divisor = pipe_ends::search(rt, &joined)?;
-    let divided = pipe_seam::split_again(rt, &joined, divisor)?;
+    pipe_join::join_rims(rt, &cut.wires, &seamed, ends)
+}
+
+// The wire is divided along the vertices that the search finds.
+fn divide(rt: &impl Print, joined: &Shell) -> Result<Shell, Stop> {
+    let divisor = pipe_ends::search(rt, joined)?;
+    pipe_seam::split_again(rt, joined, divisor)
+}
+
+// The way of the pipe, up to the contours.
+fn heal(rt: &impl Print) -> Result<(), Stop> {
+    let pipe = pipe_shell::burner_pipe();
+    writing::write_shell(rt, &pipe, 0)?;
+    let joined = join(rt, &pipe)?;
+    let divided = divide(rt, &joined)?;
     pipe_tally::write_contours(rt, &divided)?;
     pipe_tally::write_kept(rt, &joined, &divided)?;
     Ok(())

@@ -1,6 +1,8 @@
 // The shell of the burner pipe, and what a host would supply for it. Radius 1, height 4.
 #![tactic(auto)]
 
+mod notation;
+pub mod pipe_tally;
 pub mod writing;
 
 ghost use Rattle.std.specs.Prelude.{◌≡◌, drop, get_or, replicate};

@@ -1,5 +1,6 @@
 // What is written of a shell, and of the step at which the way ends.
-use crate::{Edges, Shell, Stop, Wires};
+use crate::{Edges, Shell, Stop, Wires, notation};
+use compress::Edge;
 use std::io;
 
 // The end of the line of the step at which the way ends. No Display: one stop has no text and no end of a line, and one is an error of writing.
@@ -15,19 +16,19 @@ pub fn write_stop(rt: &impl Print, stop: Stop) -> io::Result<()> {
     }
 }
 
-// The edges from a number on, each with its two vertices, as 5 = (2, 3). By cell: a row has no record with a Display.
+// An edge by its number, with its two vertices, as 5 = (2, 3).
+fn write_edge(rt: &impl Print, e: usize, edge: Edge) -> io::Result<()> {
+    let front = edge.front;
+    let back = edge.back;
+    print!(rt; " {e} = ({front}, {back})")
+}
+
+// The edges from a number on. Of at most six rows, as many as there are cells for.
 fn write_edges(rt: &impl Print, edges: &Edges, from: usize) -> io::Result<()> {
     print!(rt; "   edges")?;
-    for (e, row) in edges
-        .numbers
-        .chunks_exact(4)
-        .enumerate()
-        .take(edges.count)
-        .skip(from)
-    {
-        let front = row[0];
-        let back = row[1];
-        print!(rt; " {e} = ({front}, {back})")?;
+    let table = edges.table();
+    for e in from..edges.count.min(6) {
+        write_edge(rt, e, table.at(e))?;
     }
     println!(rt; "")
 }

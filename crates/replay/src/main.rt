@@ -6,10 +6,17 @@
 // list, of altered records: in each, one word of what the call answered and left is another, so none of them is the same.
 #![tactic(auto)]
 
+mod replay_cut;
+mod replay_join;
+mod replay_numbers;
+mod replay_pass;
+mod replay_search;
+mod replay_split;
+
 ghost use Rattle.std.specs.Prelude.{◌≡◌, OnErr};
 ghost use Rattle.stored.specs.Compared.{Compares};
 
-use replay_numbers::sorting;
+use crate::replay_numbers::sorting;
 use replay_tally::{Part, Run};
 use stored::{Damaged, Reader};
 

@@ -3,6 +3,7 @@
 
 pub mod lent;
 pub mod tables;
+pub mod wires;
 
 ghost use Rattle.std.specs.Prelude.{◌≡◌, ◌++◌, ◌+◌, ◌*◌, ◌≤◌, length, drop};
 ghost use Rattle.std.proofs.lemmas.List.Edits.{sets};
@@ -57,7 +58,7 @@ fn put_curve(floats: &mut [f64], j: usize, c: Curve)
 }
 
 // The edge e is written to row i. Beside the trait `tables::Row`, as `put_vertex` is: its answers lie by its name, and in the impl would be no fewer.
-pub fn put_edge(numbers: &mut [u32], floats: &mut [f64], i: usize, e: Edge)
+fn put_edge(numbers: &mut [u32], floats: &mut [f64], i: usize, e: Edge)
     requires { HasRow 4 6 numbers.old floats.old i }
     ensures numbers_after { numbers.new ≡ put edge_number_layout numbers.old i e }
     ensures floats_after { floats.new ≡ put edge_float_layout floats.old i e }
@@ -107,7 +108,7 @@ fn put_vertex_floats(floats: &mut [f64], i: usize, v: Vertex)
 }
 
 // The vertex v is written to row i.
-pub fn put_vertex(numbers: &mut [u32], floats: &mut [f64], i: usize, v: Vertex)
+fn put_vertex(numbers: &mut [u32], floats: &mut [f64], i: usize, v: Vertex)
     requires { HasRow 3 7 numbers.old floats.old i }
     ensures numbers_after { numbers.new ≡ put vertex_number_layout numbers.old i v }
     ensures floats_after { floats.new ≡ put vertex_float_layout floats.old i v }

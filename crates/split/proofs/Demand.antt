@@ -14,19 +14,19 @@ use Rattle.compress.specs.Said.{Said, result, refused}
 use Rattle.compress.specs.Wires.{wires_of, uses_of, lengths_of, over}
 use Rattle.compress.proofs.Wires.{length_lengths}
 use Rattle.walk.specs.Walk.{Answer, wires}
-use Rattle.lists.specs.Members.{count}
+use Rattle.walk.specs.lists.Members.{count}
 use Rattle.walk.specs.Walk as walk
 use Rattle.walk.specs.Claim.{Claimed}
-use Rattle.lists.proofs.Counts.{bit, count_cons, count_append}
+use Rattle.walk.proofs.lists.Counts.{bit, count_cons, count_append}
 use Rattle.walk.proofs.Storing.{uses_joined}
 use Rattle.walk.proofs.Tabled.{table_theorem, table_balanced}
-use Rattle.marks.specs.Marks.{new_uses}
+use Rattle.walk.specs.marks.Marks.{new_uses}
 use Rattle.split.specs.declared.Boundaries.{Boundaries}
 use Rattle.split.specs.Split.{seams, edges_after, marked_in, uses_to_walk, split_wires}
 use Rattle.split.specs.Contract.{given_in, SplitOutcome, split_stored, after_walk, cause_or_walk, split_outcome}
-use Rattle.split_causes.specs.Causes.{LentSplit, split_cause}
+use Rattle.split.specs.split_causes.Causes.{LentSplit, split_cause}
 use Rattle.split.specs.Demand.{front_in, back_in, fronts_at, backs_at, counted, KeepsUses}
-use Rattle.split_causes.proofs.Accepted.{split_checked}
+use Rattle.split.proofs.split_causes.Accepted.{split_checked}
 use Rattle.split.proofs.Fronts.{length_seams, length_edges, uses_known, front_below}
 
 -- ---- the uses of new edges, counted

@@ -15,16 +15,16 @@ use Rattle.compress.specs.Layout.{rows}
 use Rattle.compress.specs.Rows.{edge_of, edge_at}
 use Rattle.compress.proofs.Layouts.{length_rows, get_d_rows}
 use Rattle.checks.proofs.Accepted.{edge_ends}
-use Rattle.lists.specs.Ends.{end_in, end_of}
-use Rattle.lists.specs.Ends as ends
-use Rattle.seams.specs.declared.Stop.{Stop}
-use Rattle.seams.specs.Seams.{stop_at, seam_of, seams_of}
-use Rattle.marks.specs.Marks.{new_uses}
-use Rattle.marks.proofs.Marks.{length_new_uses, get_or_new_uses}
+use Rattle.walk.specs.lists.Ends.{end_in, end_of}
+use Rattle.walk.specs.lists.Ends as ends
+use Rattle.split.specs.declared.seams.Stop.{Stop}
+use Rattle.split.specs.seams.Seams.{stop_at, seam_of, seams_of}
+use Rattle.walk.specs.marks.Marks.{new_uses}
+use Rattle.walk.proofs.marks.Marks.{length_new_uses, get_or_new_uses}
 use Rattle.split.specs.Split.{seams, no_edge, edge_after, front_after, back_after, uses_to_walk}
-use Rattle.split_causes.specs.Causes.{LentSplit, rebuilt_total, pairs, split_count}
+use Rattle.split.specs.split_causes.Causes.{LentSplit, rebuilt_total, pairs, split_count}
 use Rattle.split.specs.Contract.{given_in}
-use Rattle.split_causes.proofs.Accepted.{SplitAccepted}
+use Rattle.split.proofs.split_causes.Accepted.{SplitAccepted}
 
 -- ---- the seams between the vertices of a list
 

@@ -20,24 +20,24 @@ use Rattle.compress.proofs.Layouts.{length_rows, rows_agree, store_append, store
 use Rattle.compress.proofs.Room.{edges_room}
 use Rattle.compress.proofs.Rows.{edge_numbers_stand, edge_floats_stand}
 use Rattle.checks.proofs.Accepted.{edge_ends}
-use Rattle.lists.specs.Ends.{end_of}
+use Rattle.walk.specs.lists.Ends.{end_of}
 use Rattle.walk.specs.Walk.{Answer, wires}
 use Rattle.walk.specs.Table.{table_walk}
 use Rattle.walk.proofs.Same.{same}
 use Rattle.std.proofs.Common.{Err}
 use Rattle.compress.proofs.Refused.{number_above}
-use Rattle.seams.specs.Seams.{stop_at, seams_of}
-use Rattle.marks.specs.Marks.{new_uses, marked_by}
+use Rattle.split.specs.seams.Seams.{stop_at, seams_of}
+use Rattle.walk.specs.marks.Marks.{new_uses, marked_by}
 use Rattle.split.specs.Split.{seams, edges_after, no_edge, edge_after, front_after, back_after, uses_to_walk, marked_in, split_wires}
-use Rattle.split_causes.specs.Causes.{LentSplit, face_total, rebuilt_total, pairs, split_cause}
+use Rattle.split.specs.split_causes.Causes.{LentSplit, face_total, rebuilt_total, pairs, split_cause}
 use Rattle.split.specs.Contract.{leaves_split, given_in, split_stored, SplitOutcome, after_walk, split_outcome}
-use Rattle.marks.specs.Walking.{Walkable, lent_walk}
+use Rattle.walk.specs.marks.Walking.{Walkable, lent_walk}
 use Rattle.split.specs.Steps.{Roomy, after_lent}
-use Rattle.split_causes.proofs.Accepted.{SplitChecked, split_checked}
+use Rattle.split.proofs.split_causes.Accepted.{SplitChecked, split_checked}
 use Rattle.split.specs.Demand.{KeepsUses}
 use Rattle.split.proofs.Demand.{call_keeps}
 use Rattle.split.proofs.Fronts.{length_seams, length_edges, paired, front_lent, back_lent, uses_known, front_below}
-use Rattle.lists.specs.Ends as ends
+use Rattle.walk.specs.lists.Ends as ends
 use Rattle.walk.specs.Walk as walk
 
 module _ (l : LentSplit) (C : SplitChecked l) where

@@ -10,8 +10,8 @@ use Rattle.walk.specs.declared.Walked.{Walked}
 use Rattle.walk.specs.Answered.{WalkOutcome, leaves_walk, walk_outcome}
 use Rattle.walk.specs.Walk.{Answer, wires}
 use Rattle.walk.specs.Walk as walk
-use Rattle.seams.specs.Seams.{stop_at, seams_of}
-use Rattle.split_causes.specs.Causes.{Buffers}
+use Rattle.split.specs.seams.Seams.{stop_at, seams_of}
+use Rattle.split.specs.split_causes.Causes.{Buffers}
 use Rattle.split.specs.Contract.{leaves_split}
 use Rattle.split.specs.Steps.{after_lent}
 use Rattle.split.proofs.Fronts.{length_seams_of}

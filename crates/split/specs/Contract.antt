@@ -6,9 +6,9 @@ use Rattle.compress.specs.Rows.{edge_at, edge_number_layout, edge_float_layout}
 use Rattle.compress.specs.Said.{Said, result, refused, said_of}
 use Rattle.compress.specs.Wires.{uses_of, lengths_of, over}
 use Rattle.walk.specs.Walk.{Answer, wires}
-use Rattle.split_causes.specs.Causes.{Buffers, LentSplit, face_total, rebuilt_total, split_cause}
+use Rattle.split.specs.split_causes.Causes.{Buffers, LentSplit, face_total, rebuilt_total, split_cause}
 use Rattle.split.specs.declared.Boundaries.{Boundaries}
-use Rattle.seams.specs.Seams.{stop_at}
+use Rattle.split.specs.seams.Seams.{stop_at}
 use Rattle.split.specs.Split.{Given, edges_after, split_wires}
 use Rattle.walk.specs.Walk as walk
 

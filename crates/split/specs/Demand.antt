@@ -3,13 +3,13 @@ use Rattle.std.specs.Prelude.{◌≡◌, ◌≢◌, Bool, List, [], ℕ, ◌+◌
 use Rattle.compress.specs.Records.{pick, edge_of_use}
 use Rattle.compress.specs.Said.{result, refused}
 use Rattle.compress.specs.Wires.{wires_of, uses_of}
-use Rattle.lists.specs.Members.{count}
+use Rattle.walk.specs.lists.Members.{count}
 use Rattle.walk.specs.Claim.{Wire, out, into}
-use Rattle.marks.specs.Marks.{is_new_edge}
+use Rattle.walk.specs.marks.Marks.{is_new_edge}
 use Rattle.split.specs.declared.Boundaries.{Boundaries}
 use Rattle.split.specs.Split.{front_after, back_after, uses_to_walk}
 use Rattle.split.specs.Contract.{given_in, SplitOutcome}
-use Rattle.split_causes.specs.Causes.{LentSplit, rebuilt_total, pairs, split_cause}
+use Rattle.split.specs.split_causes.Causes.{LentSplit, rebuilt_total, pairs, split_cause}
 
 -- the front and the back of a use: "those of the lent edges and of the pairs"
 abbrev pub front_in : LentSplit → ℕ → ℕ

@@ -7,9 +7,9 @@ use Rattle.compress.specs.declared.Edge.{Edge}
 use Rattle.compress.specs.Records.{front_of, back_of, front_at, back_at}
 use Rattle.walk.specs.Walk.{Answer, wires, refused}
 use Rattle.walk.specs.Table.{steps, opened, table_walk}
-use Rattle.seams.specs.declared.Stop.{Stop}
-use Rattle.seams.specs.Seams.{seam_of, seams_of}
-use Rattle.marks.specs.Marks.{new_uses, occurs, marked_by}
+use Rattle.split.specs.declared.seams.Stop.{Stop}
+use Rattle.split.specs.seams.Seams.{seam_of, seams_of}
+use Rattle.walk.specs.marks.Marks.{new_uses, occurs, marked_by}
 use Rattle.split.specs.Split.{Given, edges_after, split_wires}
 
 -- ---- numbers and records of the cases

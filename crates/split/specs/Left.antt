@@ -3,7 +3,7 @@ use Rattle.std.specs.Prelude.{List, ℕ, Result}
 use Rattle.compress.specs.declared.Edge.{Edge}
 use Rattle.compress.specs.declared.Refusal.{Refusal}
 use Rattle.rows.specs.declared.tables.TableMut.{TableMut}
-use Rattle.split_causes.specs.Causes.{Buffers}
+use Rattle.split.specs.split_causes.Causes.{Buffers}
 use Rattle.split.specs.declared.Boundaries.{Boundaries}
 use Rattle.split.specs.Contract.{SplitOutcome, leaves_split}
 

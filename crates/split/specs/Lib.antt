@@ -5,3 +5,5 @@ pub mod Steps
 pub mod Demand
 pub mod Examples
 pub mod Left
+pub mod seams
+pub mod split_causes

@@ -6,9 +6,9 @@ use Rattle.compress.specs.declared.Edge.{Edge}
 use Rattle.compress.specs.Records.{front_at, back_at}
 use Rattle.walk.specs.Walk.{Answer}
 use Rattle.walk.specs.Table.{table_walk}
-use Rattle.seams.specs.declared.Stop.{Stop}
-use Rattle.seams.specs.Seams.{seams_of}
-use Rattle.marks.specs.Marks.{new_uses, marked_by}
+use Rattle.split.specs.declared.seams.Stop.{Stop}
+use Rattle.split.specs.seams.Seams.{seams_of}
+use Rattle.walk.specs.marks.Marks.{new_uses, marked_by}
 
 -- what a split is given: how many vertices there are, the edges, the uses of the face's wires and of the wires to be rebuilt, the vertices on
 -- the divisor, and the surface number

@@ -6,7 +6,7 @@ use Rattle.compress.specs.Rows.{edge_number_layout, edge_float_layout}
 use Rattle.compress.specs.Said.{result, refused}
 use Rattle.compress.specs.Wires.{uses_of, lengths_of, over}
 use Rattle.walk.specs.Walk.{Answer, wires}
-use Rattle.split_causes.specs.Causes.{Buffers}
+use Rattle.split.specs.split_causes.Causes.{Buffers}
 use Rattle.split.specs.Contract.{SplitOutcome}
 use Rattle.walk.specs.Walk as walk
 

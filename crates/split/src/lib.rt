@@ -1,22 +1,25 @@
 // Document 01's "Split" (`split_boundaries_by_divisor`, from `duplicated_edges` on): wires are rebuilt along a divisor.
 #![tactic(auto)]
 
+pub mod seams;
+mod split_causes;
+
 ghost use Rattle.std.specs.Prelude.{◌≡◌, ◌+◌, ◌*◌, ◌/◌, length};
 ghost use Rattle.compress.specs.Layout.{rows};
-ghost use Rattle.seams.specs.Seams.{stop_at, seams_of};
-ghost use Rattle.marks.specs.Walking.{Walkable, lent_walk};
+ghost use Rattle.split.specs.seams.Seams.{stop_at, seams_of};
+ghost use Rattle.walk.specs.marks.Walking.{Walkable, lent_walk};
 ghost use Rattle.rows.specs.Places.{SameTable};
-ghost use Rattle.split_causes.specs.Lent.{lent_mut};
+ghost use Rattle.split.specs.split_causes.Lent.{lent_mut};
 ghost use Rattle.split.specs.Contract.{split_outcome};
 ghost use Rattle.split.specs.Left.{left, buffers};
 ghost use Rattle.split.specs.Demand.{KeepsUses};
 ghost use Rattle.split.specs.Steps.{Roomy, after_lent};
 
+use crate::seams::Divisor;
 use compress::{Edge, Refusal};
-use lists::AllEdges;
 use rows::lent::Wires;
 use rows::tables::TableMut;
-use seams::Divisor;
+use walk::lists::AllEdges;
 
 // What a split leaves: how many wires, uses and edges there are now.
 #[derive(Clone, Copy)]
@@ -52,7 +55,7 @@ fn split_checked(
         lent: edges.view(),
         divisor: divisor.vertices,
     };
-    let walked = marks::walk_marked(&all, face, rebuilt, uses, lengths)?;
+    let walked = walk::marks::walk_marked(&all, face, rebuilt, uses, lengths)?;
     seams::create_new_edges(edges, divisor, surface);
     Ok(Boundaries {
         wires: walked.wires,

@@ -11,12 +11,12 @@ use Rattle.std.specs.Prelude.{Option, Some, None}
 use Rattle.compress.specs.declared.Edge.{Edge}
 use Rattle.compress.specs.Records.{closed}
 use Rattle.compress.specs.Shell.{Shell, load}
-use Rattle.cut_edge.specs.Cut.{middle_of, halves_of}
-use Rattle.add_edges.specs.Add.{next, kept_edges, new_edges, added_to}
+use Rattle.cutting.specs.cut_edge.Cut.{middle_of, halves_of}
+use Rattle.split_closed_edges.specs.add_edges.Add.{next, kept_edges, new_edges, added_to}
 use Rattle.split_closed_edges.specs.Pass.{split_closed_edges}
 use Rattle.cutting.specs.Keeps.{UsesKnown, Keeps}
 use Rattle.cutting.specs.Contract.{lent_of, input_cause}
-use Rattle.add_edges.proofs.Edges.{length_kept}
+use Rattle.split_closed_edges.proofs.add_edges.Edges.{length_kept}
 use Rattle.cutting.proofs.Keeping.{keeps, lent_known}
 
 -- Edge k of es, where n is the next free vertex number and m the next free edge number: it stands as it did, or it has its halves, and its

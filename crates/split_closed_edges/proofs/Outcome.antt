@@ -21,19 +21,19 @@ use Rattle.compress.proofs.Layouts.{length_rows}
 use Rattle.std.proofs.lemmas.Bool.{and_parts}
 use Rattle.compress.proofs.Room.{vertices_room, edges_room}
 use Rattle.checks.specs.Causes.{wires_cause}
-use Rattle.add_edges.specs.Add.{next, new_edge, new_vertex, kept_edges, new_edges, new_vertices, added_to}
-use Rattle.mending.specs.Replace.{replace_wires}
+use Rattle.split_closed_edges.specs.add_edges.Add.{next, new_edge, new_vertex, kept_edges, new_edges, new_vertices, added_to}
+use Rattle.cutting.specs.mending.Replace.{replace_wires}
 use Rattle.split_closed_edges.specs.Pass.{split_closed_edges}
-use Rattle.add_edges.specs.Steps.{closed_count, Addable, Added, Marked}
+use Rattle.split_closed_edges.specs.add_edges.Steps.{closed_count, Addable, Added, Marked}
 use Rattle.split_closed_edges.specs.Steps.{closed_in, uses_told, ClosedMended}
-use Rattle.mending.specs.Steps.{AreNumbers, InPlace, count_told}
+use Rattle.cutting.specs.mending.Steps.{AreNumbers, InPlace, count_told}
 use Rattle.cutting.specs.Contract.{lent_of, leaves, input_cause}
 use Rattle.split_closed_edges.specs.Contract.{outcome_of}
-use Rattle.add_edges.proofs.Edges.{length_kept}
+use Rattle.split_closed_edges.proofs.add_edges.Edges.{length_kept}
 use Rattle.compress.specs.declared.Refusal.TheVariants as refusal
 use Rattle.std.specs.Prelude.{Option, Some, None, IfSome, Result, Ok, Err, is_ok}
 use Rattle.split_closed_edges.specs.declared.Closing.{Closing}
-use Rattle.mending.specs.declared.NoRoom.{NoRoom}
+use Rattle.cutting.specs.declared.mending.NoRoom.{NoRoom}
 use Rattle.cutting.proofs.Outcome.{Accepted, accepted, no_cause, way_cause, vertices_stand, result_full, result_done}
 
 -- ---- as many new edges and new vertices as closed edges

@@ -1,8 +1,8 @@
 -- Document 001 on values: `split_closed_edges` of a shell. Definitions only.
 use Rattle.std.specs.Prelude.{◌++◌, length}
 use Rattle.compress.specs.Shell.{Shell}
-use Rattle.mending.specs.Replace.{replace_wires}
-use Rattle.add_edges.specs.Add.{kept_edges, new_edges, new_vertices, added_to}
+use Rattle.cutting.specs.mending.Replace.{replace_wires}
+use Rattle.split_closed_edges.specs.add_edges.Add.{kept_edges, new_edges, new_vertices, added_to}
 
 -- the pass
 unfoldable pub split_closed_edges : Shell → Shell

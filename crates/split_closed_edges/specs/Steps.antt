@@ -6,11 +6,11 @@ use Rattle.rows.specs.declared.lent.WiresMut.{WiresMut}
 use Rattle.compress.specs.Layout.{rows}
 use Rattle.compress.specs.Rows.{edge_at}
 use Rattle.compress.specs.Wires.{wires_of}
-use Rattle.mending.specs.Replace.{replace_wires}
-use Rattle.mending.specs.declared.NoRoom.{NoRoom}
-use Rattle.mending.specs.Steps.{InPlace}
-use Rattle.add_edges.specs.Add.{added_to}
-use Rattle.add_edges.specs.Steps.{closed_count}
+use Rattle.cutting.specs.mending.Replace.{replace_wires}
+use Rattle.cutting.specs.declared.mending.NoRoom.{NoRoom}
+use Rattle.cutting.specs.mending.Steps.{InPlace}
+use Rattle.split_closed_edges.specs.add_edges.Add.{added_to}
+use Rattle.split_closed_edges.specs.add_edges.Steps.{closed_count}
 use Rattle.split_closed_edges.specs.declared.Closing.{Closing}
 
 -- how many edges are closed

@@ -1,6 +1,8 @@
 // Document 001, `split_closed_edges.rs`: every edge with equal ends is cut at the middle of its curve, and the wires are mended.
 #![tactic(auto)]
 
+mod add_edges;
+
 ghost use Rattle.std.specs.Prelude.{◌≡◌, ◌*◌, ◌≤◌, length};
 ghost use Rattle.checks.specs.Causes.{wires_cause};
 ghost use Rattle.rows.specs.Places.{SameTable, SameWires};
@@ -10,7 +12,7 @@ ghost use Rattle.split_closed_edges.specs.Steps.{closed_mended};
 ghost use Rattle.split_closed_edges.specs.Contract.{outcome_of};
 
 use compress::{Counts, Edge, Refusal, Vertex};
-use mending::NoRoom;
+use cutting::mending::NoRoom;
 use rows::lent::WiresMut;
 use rows::tables::{Table, TableMut};
 
@@ -35,7 +37,7 @@ fn mend_within<const N: usize>(
 {
     let mut added = [None; N];
     let cuts = add_edges::mark_closed(edges, &mut added);
-    let uses = mending::mend_wires(wires, &added[..edges.count], cuts <= room)?;
+    let uses = cutting::mending::mend_wires(wires, &added[..edges.count], cuts <= room)?;
     Ok(Closing { cuts, uses })
 }
 

@@ -1,6 +1,9 @@
 // The stored list of answers of the Rust library, read from standard input a word at a time and compared.
 #![tactic(auto)]
 
+pub mod stored_cells;
+pub mod stored_records;
+
 ghost use Rattle.std.specs.Prelude.{◌≡◌, true, ◌&&◌, ◌+◌, ◌*◌, ◌≤◌, eqb, length, IfOk, IfSome, OnOk};
 ghost use Rattle.stored.specs.Compared.{Compares, Keeps, Moved, Tested, word_at, word_before};
 
@@ -9,7 +12,7 @@ ghost use Rattle.stored.specs.Compared.{Compares, Keeps, Moved, Tested, word_at,
 const STDIN_FILENO: i32 = 0;
 
 // The most cells that a buffer of a call has.
-pub const MOST: usize = 64;
+const MOST: usize = 64;
 
 // No record has as many words: the longest has 10 buffers with their lengths, 11 numbers, and 4 buffers as the call left them, in all 917.
 const RECORD: usize = 2048;
@@ -89,7 +92,7 @@ impl<'a> Reader<'a> {
     }
 
     // Reads the length of a buffer, which is the most at most.
-    pub fn next_length(&mut self) -> Result<usize, Damaged>
+    fn next_length(&mut self) -> Result<usize, Damaged>
         ensures bound { IfOk result (λ n. n ≤ 64) }
         ensures keeps { Keeps self.old self.new }
     {
@@ -101,7 +104,7 @@ impl<'a> Reader<'a> {
     }
 
     // What was compared differs unless a test holds.
-    pub fn same_if(&mut self, test: bool)
+    fn same_if(&mut self, test: bool)
         ensures value { self.new.is_same ≡ (self.old.is_same && test) }
         ensures at_value { self.new.at ≡ self.old.at }
         ensures left_value { self.new.left ≡ self.old.left }

@@ -6,7 +6,7 @@ use mathlib.Core.Logic.{◌≢◌, ◌⊎◌, inl, inr, ⊎_elim}
 use mathlib.Core.Bool.{Bool}
 use mathlib.Core.List.{List}
 use Rattle.walk.specs.Walk.{Answer, wires, refused, walk}
-use Rattle.lists.specs.Members.{count}
+use Rattle.walk.specs.lists.Members.{count}
 use Rattle.walk.specs.Claim.{out, into}
 use Rattle.walk.proofs.Theorem.{Even, Small, Known, walk_known}
 

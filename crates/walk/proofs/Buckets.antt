@@ -9,8 +9,8 @@ use mathlib.Core.List.{List, [], ◌∷◌}
 use lib.ListN.{length}
 use borrow.Author.Tests.{eq-eqb, ne_eqb}
 use Rattle.walk.specs.Walk.{finish, fresh, State, least, begin, choose, turn, move}
-use Rattle.lists.specs.Members.{put, sits, at}
-use Rattle.lists.proofs.Counts.{bit, count_cons}
+use Rattle.walk.specs.lists.Members.{put, sits, at}
+use Rattle.walk.proofs.lists.Counts.{bit, count_cons}
 use Rattle.walk.proofs.Counts.{least_has}
 
 module _ (front : ℕ → ℕ) where

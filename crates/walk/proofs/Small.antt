@@ -5,7 +5,7 @@ use native.Mathlib.Omega.{arith}
 use mathlib.Core.Path.{◌≡◌}
 use mathlib.Core.List.{List}
 use lib.ListN.{length, get_or}
-use Rattle.lists.specs.Ends.{front_of, back_of, Sound}
+use Rattle.walk.specs.lists.Ends.{front_of, back_of, Sound}
 
 -- what the caller has checked, of the use u at a place of us
 module _ {en ds : List ℕ} {edges : ℕ} {ms us : List ℕ} (S : Sound en ds edges ms us) where

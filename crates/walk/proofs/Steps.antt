@@ -11,10 +11,10 @@ use lib.ListN.{length, take, drop, get_or, set, take-append-drop}
 use lib.Seq.{length-take-le, take-suc-set, take-take, drop-append-le, drop_at}
 use borrow.Author.Tests.{eq-eqb}
 use Rattle.walk.specs.Walk.{Answer, wires, refused, Move, refuse, along, State, join, least, begin, begun, choose, turn, move, run, walk}
-use Rattle.lists.specs.Members.{count, del, sits, at}
+use Rattle.walk.specs.lists.Members.{count, del, sits, at}
 use Rattle.walk.proofs.Counts.{took, count_all}
 use Rattle.walk.proofs.Buckets.{least_is, move_on}
-use Rattle.lists.proofs.Chains.{last_is}
+use Rattle.walk.proofs.lists.Chains.{last_is}
 
 module _ (front back : ℕ → ℕ) (marked : ℕ → Bool) where
   -- from s a wire is under way, u its last use

@@ -11,7 +11,7 @@ use Rattle.compress.proofs.Wires.{length_lengths}
 use Rattle.walk.specs.declared.Walked.{Walked}
 use Rattle.std.proofs.Common.{Ok, Err}
 use Rattle.compress.specs.declared.Refusal.{Refusal}
-use Rattle.lists.specs.Ends.{front_of, back_of, marked_of, Sound}
+use Rattle.walk.specs.lists.Ends.{front_of, back_of, marked_of, Sound}
 use Rattle.walk.specs.Walk.{Answer, join, walk}
 use Rattle.walk.specs.Answered.{Traced, leaves_walk, walk_outcome}
 

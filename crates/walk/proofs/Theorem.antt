@@ -11,9 +11,9 @@ use lib.Seq.{get_or_at}
 use lib.Dec.{eqb}
 use borrow.Author.Tests.{eqb-true, eqb-false, eq-eqb, ne_eqb}
 use Rattle.walk.specs.Walk.{Answer, wires, refused, Move, finish, refuse, fresh, along, State, join, side, least, begin, begun, choose, closed, gone, turn, move, run, walk}
-use Rattle.lists.specs.Members.{count, del, sits, at}
+use Rattle.walk.specs.lists.Members.{count, del, sits, at}
 use Rattle.walk.specs.Claim.{Wire, out, into, Walks}
-use Rattle.lists.proofs.Counts.{bit, count_cons, count_append}
+use Rattle.walk.proofs.lists.Counts.{bit, count_cons, count_append}
 use Rattle.walk.proofs.Counts.{count_join, took, passes, count_all, snoc-all, least_has}
 
 -- Every vertex is balanced.

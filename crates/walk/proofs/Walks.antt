@@ -10,18 +10,18 @@ use mathlib.Core.List.{List, [], ◌∷◌, ◌++◌, map}
 use lib.ListN.{length, take, drop, get_or, set, length-append, length-set, length-drop, get_or-eq_default}
 use lib.Seq.{length-take-le, take-suc-set, take-set-le, get_or-set_other}
 use Rattle.walk.specs.Walk.{refuse, along, side, join, choose, walk}
-use Rattle.lists.specs.Members.{count, del, sits, at}
+use Rattle.walk.specs.lists.Members.{count, del, sits, at}
 use Rattle.walk.proofs.Buckets.{all_empty}
 use Rattle.std.proofs.lemmas.Bool.{cases_lt}
 use Rattle.std.proofs.lemmas.List.{map-append}
 use Rattle.std.proofs.Common.{⊎_elim, Option, Some, None, Ok, Err, IsSome, unwrap_or}
 use Rattle.compress.specs.declared.Refusal.{Refusal}
 use Rattle.compress.specs.declared.Refusal.TheVariants.{DeadEnd, TooManyUses}
-use Rattle.lists.specs.Lists.{entry_of, Lists, Lowest}
-use Rattle.step.specs.Arrival.{exactly_one, Went, absent, empty, many, one, second, first}
+use Rattle.walk.specs.lists.Lists.{entry_of, Lists, Lowest}
+use Rattle.walk.specs.step.Arrival.{exactly_one, Went, absent, empty, many, one, second, first}
 use Rattle.compress.specs.Wires.{total}
 use Rattle.walk.specs.Answered.{Traced}
-use Rattle.lists.proofs.Chains.{chain_none, node, entry_some, lists_last, lists_first, two, one_only, three}
+use Rattle.walk.proofs.lists.Chains.{chain_none, node, entry_some, lists_last, lists_first, two, one_only, three}
 use Rattle.walk.proofs.Steps.{going, after, after_walk, after_nil, going_refused, going_along, going_closed, after_fresh, shorter, wire_more, wire_first, wire_joined, join_snoc}
 
 side_second : (a b : Bool) → exactly_one a b ≡ false → side a b ≡ 1

@@ -5,8 +5,8 @@ use Rattle.compress.specs.Refusals.{refusal_number}
 use Rattle.compress.specs.Said.{Said, result, said_of}
 use Rattle.compress.specs.Said as said
 use Rattle.compress.specs.Wires.{total, uses_of, lengths_of, over}
-use Rattle.lists.specs.declared.AllEdges.{AllEdges}
-use Rattle.lists.specs.Ends.{front_of, back_of, marked_of}
+use Rattle.walk.specs.declared.lists.AllEdges.{AllEdges}
+use Rattle.walk.specs.lists.Ends.{front_of, back_of, marked_of}
 use Rattle.walk.specs.Walk.{Answer, wires, refused, join, walk}
 use Rattle.walk.specs.declared.Walked.{Walked}
 

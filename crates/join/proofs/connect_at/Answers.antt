@@ -1,5 +1,5 @@
 use mathlib.Core.Path.{ap, ◌∙◌}
-use Rattle.joined.specs.Outcome.{left_by}
+use Rattle.join.specs.joined.Outcome.{left_by}
 use Rattle.join.proofs.Connecting.{connected_kept, connected_exchanged}
 use Rattle.join.proofs.connect_at.Goals as goal
 

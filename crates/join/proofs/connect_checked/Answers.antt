@@ -1,5 +1,5 @@
 use mathlib.Core.Path.{ap, ◌∙◌}
-use Rattle.joined.specs.Outcome.{left_by}
+use Rattle.join.specs.joined.Outcome.{left_by}
 use Rattle.join.proofs.Connecting.{first_holds, second_holds, none_holds}
 use Rattle.join.proofs.connect_checked.Goals as goal
 

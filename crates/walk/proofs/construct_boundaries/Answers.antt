@@ -1,5 +1,5 @@
 use Rattle.std.proofs.Common.{rules, ◌<◌, length, sym, ◌∙◌, refl, arith}
-use Rattle.lists.proofs.Chains.{lists_all}
+use Rattle.walk.proofs.lists.Chains.{lists_all}
 use Prim.Native.Nat.{ℕ}
 use Rattle.compress.proofs.Cells.{all_alike}
 use Rattle.walk.proofs.Small.{front_small, back_small}

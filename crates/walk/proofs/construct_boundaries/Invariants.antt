@@ -1,6 +1,6 @@
 use Prim.Native.Nat.{◌+◌, ◌-◌}
 use lib.ListN.{length, set}
-use Rattle.lists.specs.Ends.{front_in, back_in, marked_of}
+use Rattle.walk.specs.lists.Ends.{front_in, back_in, marked_of}
 use Rattle.walk.proofs.Walks.{Between, Along}
 use Rattle.walk.proofs.construct_boundaries.Given as goal
 

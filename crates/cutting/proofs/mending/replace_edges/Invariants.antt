@@ -1,0 +1,5 @@
+use Rattle.cutting.proofs.mending.Wires.{Replaced}
+use Rattle.cutting.proofs.mending.replace_edges.Given as goal
+
+abbrev pub invariant-loop-u : goal.invariant-loop-u
+invariant-loop-u l = Replaced l.added l.wire l.initial.out l.u-index l.k l.out

@@ -1,5 +1,0 @@
-use Rattle.mending.proofs.Wires.{Replaced}
-use Rattle.mending.proofs.replace_edges.Given as goal
-
-abbrev pub invariant-loop-u : goal.invariant-loop-u
-invariant-loop-u l = Replaced l.added l.wire l.initial.out l.u-index l.k l.out

@@ -1,6 +1,0 @@
-use Rattle.rows.specs.Held.{vertices_in, edges_in}
-use Rattle.nearest.proofs.Fronts.{Seeking}
-use Rattle.nearest.proofs.nearest_front.Given as goal
-
-abbrev pub invariant-loop-w : goal.invariant-loop-w
-invariant-loop-w l = Seeking (edges_in l.tables.edges) (vertices_in l.tables.vertices) l.p l.tables.vertices.count l.u l.us l.w-index l.best

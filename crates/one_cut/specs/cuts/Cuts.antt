@@ -1,0 +1,30 @@
+-- The cuts of one edge, in rows of four floats, and their causes. Definitions only.
+use Rattle.std.specs.Prelude.{List, ℕ, ◌+◌, ◌*◌, ltb, Float, length, get_or}
+use Rattle.std.specs.Float.{nan}
+use Rattle.compress.specs.Records.{pick}
+use Rattle.checks.specs.Causes.{lower_of, lowest_of, parameter_cause, point_cause}
+use Rattle.compress.specs.declared.Edge.{Edge}
+use Rattle.compress.specs.Rows.{edge_at}
+use Rattle.rows.specs.declared.tables.TableMut.{TableMut}
+use Rattle.cutting.specs.declared.cut_edge.Halves.{Halves}
+use Rattle.cutting.specs.cut_edge.Cut.{halves_of}
+use Rattle.one_cut.specs.declared.cuts.Cut.{Cut}
+
+-- a cut is its parameter and its point: four cells of a row
+abbrev pub cut_of : Float → Float → Float → Float → Cut
+cut_of t x y z = record { t = t; point = record { x = x; y = y; z = z } }
+
+abbrev pub cut_at : List Float → ℕ → Cut
+cut_at cs i = cut_of (get_or cs (i * 4) nan) (get_or cs (i * 4 + 1) nan) (get_or cs (i * 4 + 2) nan) (get_or cs (i * 4 + 3) nan)
+
+-- 5: "cut .. parameter outside its curve's t0 to t1"; 4 for each of its numbers
+unfoldable pub cut_cause : Float → Float → Cut → ℕ
+cut_cause t0 t1 c = lower_of (parameter_cause t0 t1 c.t) (point_cause c.point.x c.point.y c.point.z)
+
+-- n cuts: "a count .. is above what was lent", and every cut, used or not
+unfoldable pub cuts_cause : Float → Float → List Float → ℕ → ℕ
+cuts_cause t0 t1 cs n = pick (ltb (length cs) (n * 4)) 1 (lowest_of (λ i. cut_cause t0 t1 (cut_at cs i)) n)
+
+-- the halves of the edge in row i of a table, which is cut at t by vertex n
+abbrev pub halves_at : TableMut Edge → ℕ → Float → ℕ → Halves
+halves_at edges i t n = halves_of (edge_at edges.numbers.now edges.floats.now i) t n

@@ -1,0 +1,38 @@
+// The first step of the healing, the closed-edge pass: the rims are cut. What the call answers is written, with the shell as the step leaves
+// it, which comes back.
+
+ghost use Rattle.std.specs.Prelude.{◌≡◌, IfOk};
+ghost use Rattle.pipe.specs.pipe_rims.Steps.{pass_of, Passed};
+
+use pipe_shell::{Shell, Stop, writing};
+use rows::lent::WiresMut;
+use rows::tables::TableMut;
+
+// Cuts the rims; a host evaluates the points of the new vertices.
+// The edges and wires to write are put together here: after a loan by a method nothing is known of what the shell holds, and `passed` fails.
+// The words for what a loan leaves are for a reference or a pair of them, and not for a struct.
+pub fn cut_rims(rt: &impl Print, s: &Shell) -> Result<Shell, Stop>
+    ensures same { IfOk result (λ left. left.wires.count ≡ s.now.wires.count) }
+    ensures passed { IfOk result (λ left. Passed (pass_of s.now) left) }
+{
+    print!(rt; "1. closed-edge pass:")?;
+    let mut left = *s;
+    let counts = split_closed_edges::split_closed_edges(
+        &mut left.vertices.table_mut(),
+        &mut TableMut::new(
+            &mut left.edges.numbers,
+            &mut left.edges.floats,
+            s.edges.count,
+        ),
+        &mut WiresMut {
+            uses: &mut left.wires.uses,
+            lengths: &mut left.wires.lengths,
+            count: s.wires.count,
+        },
+    )?;
+    left.vertices = pipe_shell::given(counts.vertices);
+    left.edges.count = counts.edges;
+    println!(rt; " the rims are cut, the new vertices evaluated")?;
+    writing::write_shell(rt, &left, 0)?;
+    Ok(left)
+}

@@ -1,0 +1,55 @@
+// Replays one stored call of cut_edge_by_intersections.
+
+ghost use Rattle.stored.specs.Compared.{Compares, Keeps};
+
+use one_cut::cuts::EdgeCuts;
+use records::{Counts, Shell};
+use stored::stored_cells::{Buffer, Cell};
+use stored::stored_records::answers::Answer;
+use stored::stored_records::tables as records;
+use stored::{Damaged, Reader};
+
+// How many wires the call was told, which edge is cut, and how many cuts the call was told.
+#[derive(Clone, Copy)]
+struct Asked {
+    wires: usize,
+    edge: u32,
+    cuts: usize,
+}
+
+impl Asked {
+    fn read(list: &mut Reader<'_>) -> Result<Asked, Damaged>
+        ensures keeps { Keeps list.old list.new }
+    {
+        let wires = usize::next(list)?;
+        let edge = u32::next(list)?;
+        let cuts = usize::next(list)?;
+        Ok(Asked { wires, edge, cuts })
+    }
+}
+
+// Makes the call cut_edge_by_intersections, which writes to the shell.
+fn cut(c: Counts, a: Asked, s: &mut Shell, cuts: &Buffer<f64>) -> Answer<usize, 3> {
+    Answer::from(one_cut::cut_edge_by_intersections(
+        &mut s.vertices.lent_mut(c.vertices),
+        &mut s.edges.lent_mut(c.edges),
+        &mut s.wires.lent_mut(a.wires),
+        &EdgeCuts {
+            edge: a.edge,
+            floats: cuts.cells(),
+            count: a.cuts,
+        },
+    ))
+}
+
+// Replays cut_edge_by_intersections.
+pub fn replay_cut(list: &mut Reader<'_>) -> Result<(), Damaged>
+    ensures compares { Compares list.old list.new }
+{
+    let counts = Counts::read(list)?;
+    let asked = Asked::read(list)?;
+    let mut shell = Shell::read(list)?;
+    let cuts = Buffer::read(list)?;
+    cut(counts, asked, &mut shell, &cuts).compare(list)?;
+    shell.compare(list)
+}

@@ -1,0 +1,46 @@
+// Replays one stored call of split_closed_edges.
+
+ghost use Rattle.stored.specs.Compared.{Compares, Keeps};
+
+use records::{Counts, Lengths, Pair, Shell, Table};
+use stored::stored_cells::Cell;
+use stored::stored_records::answers::Answer;
+use stored::stored_records::tables as records;
+use stored::{Damaged, Reader};
+
+// Reads the lengths of all six buffers, and then the cells of all.
+fn read_shell(list: &mut Reader<'_>) -> Result<Shell, Damaged>
+    ensures keeps { Keeps list.old list.new }
+{
+    let vertices = Lengths::read(list)?;
+    let edges = Lengths::read(list)?;
+    let wires = Lengths::read(list)?;
+    let vertices = Table::fill(list, vertices)?;
+    let edges = Table::fill(list, edges)?;
+    let wires = Pair::fill(list, wires)?;
+    Ok(Shell {
+        vertices,
+        edges,
+        wires,
+    })
+}
+
+// Makes the call split_closed_edges, which writes to the shell.
+fn pass(c: Counts, wires: usize, s: &mut Shell) -> Answer<usize, 3> {
+    Answer::from(split_closed_edges::split_closed_edges(
+        &mut s.vertices.lent_mut(c.vertices),
+        &mut s.edges.lent_mut(c.edges),
+        &mut s.wires.lent_mut(wires),
+    ))
+}
+
+// Replays split_closed_edges.
+pub fn replay_pass(list: &mut Reader<'_>) -> Result<(), Damaged>
+    ensures compares { Compares list.old list.new }
+{
+    let counts = Counts::read(list)?;
+    let wires = usize::next(list)?;
+    let mut shell = read_shell(list)?;
+    pass(counts, wires, &mut shell).compare(list)?;
+    shell.compare(list)
+}

@@ -1,0 +1,54 @@
+-- What the steps of the pass ask and leave: one turn of `add_edges`, all of it, and its map. Definitions only.
+use Rattle.std.specs.Prelude.{Bool, true, false, ◌≡◌, Option, List, [], ◌∷◌, ◌++◌, ℕ, ◌+◌, ◌*◌, ◌≤◌, ◌<◌, length, get_or, drop, Float}
+use Rattle.compress.specs.declared.Edge.{Edge}
+use Rattle.compress.specs.declared.Vertex.{Vertex}
+use Rattle.compress.specs.Records.{closed}
+use Rattle.compress.specs.Layout.{Layout, put, store, store_from, rows}
+use Rattle.compress.specs.Rows.{edge_at, edge_number_layout, edge_float_layout, vertex_number_layout, vertex_float_layout}
+use Rattle.cutting.specs.cut_edge.Cut.{middle_of, halves_of, pending_of}
+use Rattle.split_closed_edges.specs.add_edges.Add.{next, kept_edges, new_edges, new_vertices, added_to}
+
+-- where the edge e of row i is closed, its halves stand in the rows i and m, cut by the vertex n
+abbrev pub cut_rows : {A : Type 0} → Layout A Edge → Bool → ℕ → ℕ → ℕ → Edge → List A → List A
+cut_rows l true n i m e s = put l (put l s i (halves_of e (middle_of e.curve) n).old) m (halves_of e (middle_of e.curve) n).new
+cut_rows l false n i m e s = s
+
+-- where it is closed, row n holds the new vertex
+abbrev pub pending_row : {A : Type 0} → Layout A Vertex → Bool → ℕ → Edge → List A → List A
+pending_row l true n e s = put l s n (pending_of e)
+pending_row l false n e s = s
+
+-- how many edges are closed
+unfoldable pub closed_count : List Edge → ℕ
+closed_count [] = 0
+closed_count (e ∷ es) = next (closed e) (closed_count es)
+
+-- a turn that cuts has a row for the vertex n and one for the edge m
+pub record PlaceFor (n m : ℕ) (vn : List ℕ) (vf : List Float) (en : List ℕ) (ef : List Float) : Type 0 where
+  pub below : n < 4096
+  pub vertex_numbers : n * 3 + 3 ≤ length vn
+  pub vertex_floats : n * 7 + 7 ≤ length vf
+  pub edge_numbers : m * 4 + 4 ≤ length en
+  pub edge_floats : m * 6 + 6 ≤ length ef
+
+-- `add_edges` has a row for each vertex and each edge of its result, and the kinds of its edges are known ones
+pub record Addable (n count : ℕ) (vn : List ℕ) (vf : List Float) (en : List ℕ) (ef : List Float) : Type 0 where
+  pub below : n + closed_count (rows (edge_at en ef) 0 count) ≤ 4096
+  pub vertex_numbers : (n + closed_count (rows (edge_at en ef) 0 count)) * 3 ≤ length vn
+  pub vertex_floats : (n + closed_count (rows (edge_at en ef) 0 count)) * 7 ≤ length vf
+  pub edge_numbers : (count + closed_count (rows (edge_at en ef) 0 count)) * 4 ≤ length en
+  pub edge_floats : (count + closed_count (rows (edge_at en ef) 0 count)) * 6 ≤ length ef
+  pub kinds : (j : ℕ) → j < count → get_or en (j * 4 + 2) 0 < 2
+
+-- the slices after `add_edges`: the edges with their halves, and the new vertices from row n on
+pub record Added (n count : ℕ) (vn : List ℕ) (vf : List Float) (en : List ℕ) (ef : List Float)
+    (vn' : List ℕ) (vf' : List Float) (en' : List ℕ) (ef' : List Float) : Type 0 where
+  pub vertex_numbers : vn' ≡ store_from vertex_number_layout vn n (new_vertices (rows (edge_at en ef) 0 count))
+  pub vertex_floats : vf' ≡ store_from vertex_float_layout vf n (new_vertices (rows (edge_at en ef) 0 count))
+  pub edge_numbers : en' ≡ store edge_number_layout en (kept_edges n (rows (edge_at en ef) 0 count) ++ new_edges n (rows (edge_at en ef) 0 count))
+  pub edge_floats : ef' ≡ store edge_float_layout ef (kept_edges n (rows (edge_at en ef) 0 count) ++ new_edges n (rows (edge_at en ef) 0 count))
+
+-- the map of `add_edges` written over the front of a table, and how many edges are closed
+pub record Marked (es : List Edge) (before added : List (Option ℕ)) (r : ℕ) : Type 0 where
+  pub map : added ≡ added_to (length es) es ++ drop (length es) before
+  pub count : r ≡ closed_count es

@@ -1,5 +1,0 @@
-use Rattle.stored.specs.Compared.{Compares}
-use Rattle.stored_cells.proofs.Buffer.compare.Given as goal
-
-abbrev pub invariant-loop-cell : goal.invariant-loop-cell
-invariant-loop-cell g l = Compares l.initial.list l.list

@@ -1,6 +1,0 @@
-use Rattle.checks.specs.Causes.{edge_row_cause}
-use Rattle.tables.proofs.edge_row.Goals as goal
-
-pub returns : goal.returns
-unfolding edge_row_cause
-returns c = rw (c.lower.ensures, c.edge.ensures, c.at.ensures, c.kind-k.ensures)

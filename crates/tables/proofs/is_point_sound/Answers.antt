@@ -1,5 +1,0 @@
-use Rattle.tables.proofs.Told.{point_test}
-use Rattle.tables.proofs.is_point_sound.Goals as goal
-
-pub returns : goal.returns
-returns c = rw (c.is_sized.ensures, c.is_sized-2.ensures, c.is_sized-3.ensures) (point_test _ _ _)

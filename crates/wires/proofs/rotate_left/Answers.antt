@@ -1,6 +1,0 @@
-use Rattle.wires.proofs.Turns.{turned_by_parts}
-use Rattle.wires.proofs.rotate_left.Goals as goal
-
-pub returns : goal.returns
-returns c =
-    turned_by_parts c.args.by c.args.wire.now c.args.out.now c.requires.0 c.requires.1 _ _ c.copy.ensures c.copy-2.ensures
