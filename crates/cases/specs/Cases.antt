@@ -2,6 +2,7 @@
 use Rattle.std.specs.Prelude.{◌≡◌, refl, Option, Some, None, List, [], ◌∷◌, ℕ, get_or, Float}
 use Rattle.std.specs.Float.{binary64}
 use Rattle.std.specs.Float.Ieee.{of_bits, add, sub, mul, div, neg, lt, le, round}
+use Rattle.compress.specs.Constants.{zero64, one64, two64, four64}
 use Rattle.compress.specs.declared.Curve.TheVariants.{Span}
 use Rattle.compress.specs.declared.Edge.{Edge}
 use Rattle.compress.specs.declared.Uv.{Uv}
@@ -25,6 +26,7 @@ use Rattle.non_simple.specs.loops.Loop.{nothing, insert, searched, first_repeat}
 use Rattle.non_simple.specs.divisor.Divided.{second_pair, divided_by, turned_divisor}
 use Rattle.non_simple.specs.Search.{wire_divisor, find_divisor}
 use Rattle.periodic.specs.Copies.{nearest_copy_of, copy_cause, nearest_copy_said}
+use Rattle.compress.specs.Worked.{k9_edges, k9_wire}
 use Rattle.walk.specs.Walk.{Answer}
 use Rattle.walk.specs.Table.{steps, opened, table_walk}
 use Rattle.split.specs.seams.Seams.{seam_of, seams_of}
@@ -34,23 +36,11 @@ use Rattle.split.specs.Split as split
 use Rattle.split.specs.Examples as splits
 
 -- ---- the numbers and records of the cases
-abbrev pub zero64 : Float
-zero64 = of_bits binary64 0
-
 abbrev pub negative_zero64 : Float
 negative_zero64 = of_bits binary64 0x8000_0000_0000_0000
 
-abbrev pub one64 : Float
-one64 = of_bits binary64 0x3ff0_0000_0000_0000
-
 abbrev pub half64 : Float
 half64 = of_bits binary64 0x3fe0_0000_0000_0000
-
-abbrev pub two64 : Float
-two64 = of_bits binary64 0x4000_0000_0000_0000
-
-abbrev pub four64 : Float
-four64 = of_bits binary64 0x4010_0000_0000_0000
 
 -- 4.5
 abbrev pub four_and_half64 : Float
@@ -124,18 +114,12 @@ abbrev pub k5 : Case
 k5 = unwrapping zero64 two64 (Some four64) (result zero64)
 
 -- "K9: edges 0 = (0, 2), 1 = (0, 1), 2 = (1, 0), 3 = (2, 3), 4 = (3, 2); vertices (1,0,0), (-1,0,0), (1,0,4), (-1,0,4)"
-abbrev pub edge_between : ℕ → ℕ → Edge
-edge_between a b = record { front = a; back = b; curve = Span 0 zero64 one64 }
-
-abbrev pub pipe_edges : List Edge
-pipe_edges = edge_between 0 2 ∷ edge_between 0 1 ∷ edge_between 1 0 ∷ edge_between 2 3 ∷ edge_between 3 2 ∷ []
-
 abbrev pub pipe_vertices : List Vertex
 pipe_vertices =
     Given one64 zero64 zero64 ∷ Given (neg one64) zero64 zero64 ∷ Given one64 zero64 four64 ∷ Given (neg one64) zero64 four64 ∷ []
 
 abbrev pub pipe_wire : List ℕ → Said Ends → Case
-pipe_wire wire answer = searching pipe_edges pipe_vertices (wire ∷ []) answer
+pipe_wire wire answer = searching k9_edges pipe_vertices (wire ∷ []) answer
 
 -- "K6: 0+ 1+ 2+ gives none."
 abbrev pub k6 : Case
@@ -151,7 +135,7 @@ k8 = pipe_wire (0 ∷ 1 ∷ 2 ∷ []) none
 
 -- "K9: .. wire 1+ 2+ 0+ 3+ 4+ 0-. Answer (3, 1)."
 abbrev pub k9 : Case
-k9 = pipe_wire (2 ∷ 4 ∷ 0 ∷ 6 ∷ 8 ∷ 1 ∷ []) (result (record { v0 = 3; v1 = 1 }))
+k9 = pipe_wire k9_wire (result (record { v0 = 3; v1 = 1 }))
 
 -- "K10: K9's edges, face wire and rebuilt wire, list 3, 1: edge 5 = (3, 1); wires 0+ 3+ 5+ 2+ and 1+ 5- 4+ 0-."
 abbrev pub k10 : Case

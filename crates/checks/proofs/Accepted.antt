@@ -11,7 +11,7 @@ use lib.ListN.{length, get_or, take}
 use lib.Ieee.{Float}
 use Rattle.compress.specs.declared.Edge.{Edge}
 use Rattle.compress.specs.Records.{pick}
-use Rattle.compress.specs.Rows.{edge_at, vertex_at}
+use Rattle.compress.specs.Rows.{numbers_per_edge, floats_per_edge, numbers_per_vertex, floats_per_vertex, edge_kind_at, vertex_kind_at, curve_kind_at, edge_at, vertex_at}
 use Rattle.compress.specs.Wires.{total}
 use Rattle.checks.specs.Causes.{when, kind_cause, curve_kind_cause, edge_cause, vertex_cause, edge_number_cause, edge_row_cause, vertex_row_cause, edges_cause, vertices_cause, uses_cause, wires_cause}
 use Rattle.checks.proofs.Lowest.{lower_none, lowest_none}
@@ -38,34 +38,34 @@ kind_known k e = let h = ltb-false 1 k (not_when (ltb 1 k) 0 e) in omega arith
 -- a table of n edges between v vertices
 pub record EdgesAccepted (v : ℕ) (ns : List ℕ) (fs : List Float) (n : ℕ) : Type 0 where
   pub below : n ≤ 4096
-  pub numbers : n * 4 ≤ length ns
+  pub numbers : n * numbers_per_edge ≤ length ns
   pub floats : n * 6 ≤ length fs
-  pub kinds : (i : ℕ) → i < n → get_or ns (i * 4 + 2) 0 < 2
+  pub kinds : (i : ℕ) → i < n → edge_kind_at ns i < 2
   pub rows : (i : ℕ) → i < n → edge_cause v (edge_at ns fs i) ≡ 0
 
 pub edges_accepted : (v : ℕ) (ns : List ℕ) (fs : List Float) (n : ℕ) → edges_cause v ns fs n ≡ 0 → EdgesAccepted v ns fs n
 unfolding edges_cause edge_row_cause
 edges_accepted v ns fs n e =
     let a = passed (ltb 4096 n) _ e in
-    let b = passed (ltb (length ns) (n * 4)) _ a.1 in
-    let c = passed (ltb (length fs) (n * 6)) _ b.1 in
-    let row : (i : ℕ) → i < n → (kind_cause (get_or ns (i * 4 + 2) 0) ≡ 0) × (edge_cause v (edge_at ns fs i) ≡ 0)
-    = λ i h. lower_none (kind_cause (get_or ns (i * 4 + 2) 0)) (edge_cause v (edge_at ns fs i)) (lowest_none (edge_row_cause v ns fs) n i c.1 h) in
+    let b = passed (ltb (length ns) (n * numbers_per_edge)) _ a.1 in
+    let c = passed (ltb (length fs) (n * floats_per_edge)) _ b.1 in
+    let row : (i : ℕ) → i < n → (kind_cause (edge_kind_at ns i) ≡ 0) × (edge_cause v (edge_at ns fs i) ≡ 0)
+    = λ i h. lower_none (kind_cause (edge_kind_at ns i)) (edge_cause v (edge_at ns fs i)) (lowest_none (edge_row_cause v ns fs) n i c.1 h) in
     record {
       below = ltb-false 4096 n a.0;
-      numbers = ltb-false (length ns) (n * 4) b.0;
-      floats = ltb-false (length fs) (n * 6) c.0;
-      kinds = λ i h. kind_known (get_or ns (i * 4 + 2) 0) (row i h).0;
+      numbers = ltb-false (length ns) (n * numbers_per_edge) b.0;
+      floats = ltb-false (length fs) (n * floats_per_edge) c.0;
+      kinds = λ i h. kind_known (edge_kind_at ns i) (row i h).0;
       rows = λ i h. (row i h).1;
     }
 
 -- a table of n vertices
 pub record VerticesAccepted (ns : List ℕ) (fs : List Float) (n : ℕ) : Type 0 where
   pub below : n ≤ 4096
-  pub numbers : n * 3 ≤ length ns
+  pub numbers : n * numbers_per_vertex ≤ length ns
   pub floats : n * 7 ≤ length fs
-  pub kinds : (i : ℕ) → i < n → get_or ns (i * 3) 0 < 2
-  pub curve_kinds : (i : ℕ) → i < n → get_or ns (i * 3) 0 ≡ 1 → get_or ns (i * 3 + 1) 0 < 2
+  pub kinds : (i : ℕ) → i < n → vertex_kind_at ns i < 2
+  pub curve_kinds : (i : ℕ) → i < n → vertex_kind_at ns i ≡ 1 → curve_kind_at ns i < 2
   pub rows : (i : ℕ) → i < n → vertex_cause (vertex_at ns fs i) ≡ 0
 
 curve_kind_known : (k c : ℕ) → curve_kind_cause k c ≡ 0 → k ≡ 1 → c < 2
@@ -77,19 +77,19 @@ pub vertices_accepted : (ns : List ℕ) (fs : List Float) (n : ℕ) → vertices
 unfolding vertices_cause vertex_row_cause
 vertices_accepted ns fs n e =
     let a = passed (ltb 4096 n) _ e in
-    let b = passed (ltb (length ns) (n * 3)) _ a.1 in
-    let c = passed (ltb (length fs) (n * 7)) _ b.1 in
-    let row : (i : ℕ) → i < n → (kind_cause (get_or ns (i * 3) 0) ≡ 0) × (curve_kind_cause (get_or ns (i * 3) 0) (get_or ns (i * 3 + 1) 0) ≡ 0) × (vertex_cause (vertex_at ns fs i) ≡ 0)
+    let b = passed (ltb (length ns) (n * numbers_per_vertex)) _ a.1 in
+    let c = passed (ltb (length fs) (n * floats_per_vertex)) _ b.1 in
+    let row : (i : ℕ) → i < n → (kind_cause (vertex_kind_at ns i) ≡ 0) × (curve_kind_cause (vertex_kind_at ns i) (curve_kind_at ns i) ≡ 0) × (vertex_cause (vertex_at ns fs i) ≡ 0)
     = λ i h.
-    let r = lower_none (kind_cause (get_or ns (i * 3) 0)) _ (lowest_none (vertex_row_cause ns fs) n i c.1 h) in
-    let s = lower_none (curve_kind_cause (get_or ns (i * 3) 0) (get_or ns (i * 3 + 1) 0)) (vertex_cause (vertex_at ns fs i)) r.1 in
+    let r = lower_none (kind_cause (vertex_kind_at ns i)) _ (lowest_none (vertex_row_cause ns fs) n i c.1 h) in
+    let s = lower_none (curve_kind_cause (vertex_kind_at ns i) (curve_kind_at ns i)) (vertex_cause (vertex_at ns fs i)) r.1 in
     (r.0, s.0, s.1) in
     record {
       below = ltb-false 4096 n a.0;
-      numbers = ltb-false (length ns) (n * 3) b.0;
-      floats = ltb-false (length fs) (n * 7) c.0;
-      kinds = λ i h. kind_known (get_or ns (i * 3) 0) (row i h).0;
-      curve_kinds = λ i h q. curve_kind_known (get_or ns (i * 3) 0) (get_or ns (i * 3 + 1) 0) (row i h).1 q;
+      numbers = ltb-false (length ns) (n * numbers_per_vertex) b.0;
+      floats = ltb-false (length fs) (n * floats_per_vertex) c.0;
+      kinds = λ i h. kind_known (vertex_kind_at ns i) (row i h).0;
+      curve_kinds = λ i h q. curve_kind_known (vertex_kind_at ns i) (curve_kind_at ns i) (row i h).1 q;
       rows = λ i h. (row i h).2;
     }
 

@@ -1,4 +1,5 @@
 pub mod Lowest
+pub mod Numbers
 pub mod Sound
 pub mod Accepted
 pub mod Lying

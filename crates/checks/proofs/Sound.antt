@@ -22,7 +22,7 @@ use Rattle.compress.specs.declared.Uv.{Uv}
 use Rattle.compress.specs.declared.Curve.TheVariants.{Span, Seam}
 use Rattle.compress.specs.declared.Vertex.TheVariants.{Pending}
 use Rattle.compress.specs.Records.{pick, first_of, last_of}
-use Rattle.compress.specs.Rows.{curve_of, curve_at, edge_of, vertex_of}
+use Rattle.compress.specs.Rows.{numbers_per_edge, floats_per_edge, numbers_per_vertex, floats_per_vertex, edge_kind_at, vertex_kind_at, curve_kind_at, curve_of, curve_at, edge_of, vertex_of}
 use Rattle.compress.specs.Shell.{rows_fit}
 use Rattle.checks.specs.Causes.{table_cause, when, lower_of, lowest_of, float_cause, range_cause, parameter_cause, uv_cause, point_cause, curve_cause, edge_cause, vertex_cause, edge_row_cause, vertex_row_cause, pending_row_cause}
 use Rattle.checks.proofs.Lowest.{lower_first, lower_none}
@@ -186,21 +186,21 @@ curve_ends k n p q a b = by (eqb k 0)
     by false = (refl, refl)
 
 -- ---- rows
-pub edge_sound : (v : ℕ) (ns : List ℕ) (fs : List Float) (i : ℕ) → get_or ns (i * 4) 0 < v → get_or ns (i * 4 + 1) 0 < v
-    → (get_or ns (i * 4 + 2) 0 ≤ 1) × ((n : ℕ) → curve_cause (curve_at (get_or ns (i * 4 + 2) 0) n fs (i * 6)) ≡ 0)
+pub edge_sound : (v : ℕ) (ns : List ℕ) (fs : List Float) (i : ℕ) → get_or ns (i * numbers_per_edge) 0 < v → get_or ns (i * numbers_per_edge + 1) 0 < v
+    → (edge_kind_at ns i ≤ 1) × ((n : ℕ) → curve_cause (curve_at (edge_kind_at ns i) n fs (i * floats_per_edge)) ≡ 0)
     → edge_row_cause v ns fs i ≡ 0
 unfolding edge_row_cause edge_cause edge_of
 edge_sound v ns fs i f b c =
-    lower_zero (when (ltb 1 (get_or ns (i * 4 + 2) 0)) 1) _ (rw (le-ltb 1 (get_or ns (i * 4 + 2) 0) c.0))
-    (lower_zero (when (leb v (get_or ns (i * 4) 0)) 2) _ (rw (lt-leb v (get_or ns (i * 4) 0) f))
-    (lower_zero (when (leb v (get_or ns (i * 4 + 1) 0)) 2) _ (rw (lt-leb v (get_or ns (i * 4 + 1) 0) b)) (c.1 (get_or ns (i * 4 + 3) 0))))
+    lower_zero (when (ltb 1 (edge_kind_at ns i)) 1) _ (rw (le-ltb 1 (edge_kind_at ns i) c.0))
+    (lower_zero (when (leb v (get_or ns (i * numbers_per_edge) 0)) 2) _ (rw (lt-leb v (get_or ns (i * numbers_per_edge) 0) f))
+    (lower_zero (when (leb v (get_or ns (i * numbers_per_edge + 1) 0)) 2) _ (rw (lt-leb v (get_or ns (i * numbers_per_edge + 1) 0) b)) (c.1 (get_or ns (i * numbers_per_edge + 3) 0))))
 
-pub given_sound : (ns : List ℕ) (fs : List Float) (i : ℕ) → get_or ns (i * 3) 0 ≡ 0
-    → point_cause (get_or fs (i * 7) nan) (get_or fs (i * 7 + 1) nan) (get_or fs (i * 7 + 2) nan) ≡ 0 → vertex_row_cause ns fs i ≡ 0
+pub given_sound : (ns : List ℕ) (fs : List Float) (i : ℕ) → vertex_kind_at ns i ≡ 0
+    → point_cause (get_or fs (i * floats_per_vertex) nan) (get_or fs (i * floats_per_vertex + 1) nan) (get_or fs (i * floats_per_vertex + 2) nan) ≡ 0 → vertex_row_cause ns fs i ≡ 0
 unfolding vertex_row_cause vertex_cause vertex_of
 given_sound ns fs i k p = rw k (lower_zero 0 _ refl (lower_zero 0 _ refl p))
 
-pub not_pending : (ns : List ℕ) (i : ℕ) → get_or ns (i * 3) 0 ≡ 0 → pending_row_cause ns i ≡ 0
+pub not_pending : (ns : List ℕ) (i : ℕ) → vertex_kind_at ns i ≡ 0 → pending_row_cause ns i ≡ 0
 not_pending ns i k = rw k
 
 -- a pending vertex of a curve of known kind, with its floats from cell b on
@@ -214,12 +214,12 @@ vertex_sound k n fs b t c p =
     let ends = curve_ends k n u v (get_or fs (b + 4) nan) (get_or fs (b + 5) nan) in
     lower_zero _ _ c (rw (ends.0, ends.1) (p (curve_range k n u v (get_or fs (b + 4) nan) (get_or fs (b + 5) nan) c)))
 
-pub pending_sound : (ns : List ℕ) (fs : List Float) (i : ℕ) → get_or ns (i * 3) 0 ≡ 1
-    → (get_or ns (i * 3 + 1) 0 ≤ 1)
-    × ((n : ℕ) → vertex_cause (Pending (curve_at (get_or ns (i * 3 + 1) 0) n fs (i * 7)) (get_or fs (i * 7 + 6) nan)) ≡ 0)
+pub pending_sound : (ns : List ℕ) (fs : List Float) (i : ℕ) → vertex_kind_at ns i ≡ 1
+    → (curve_kind_at ns i ≤ 1)
+    × ((n : ℕ) → vertex_cause (Pending (curve_at (curve_kind_at ns i) n fs (i * floats_per_vertex)) (get_or fs (i * floats_per_vertex + 6) nan)) ≡ 0)
     → vertex_row_cause ns fs i ≡ 0
 unfolding vertex_row_cause vertex_of
 pending_sound ns fs i k c =
     rw k
     (lower_zero 0 _ refl
-    (lower_zero (when (ltb 1 (get_or ns (i * 3 + 1) 0)) 1) _ (rw (le-ltb 1 (get_or ns (i * 3 + 1) 0) c.0)) (c.1 (get_or ns (i * 3 + 2) 0))))
+    (lower_zero (when (ltb 1 (curve_kind_at ns i)) 1) _ (rw (le-ltb 1 (curve_kind_at ns i) c.0)) (c.1 (get_or ns (i * numbers_per_vertex + 2) 0))))

@@ -2,7 +2,8 @@
 -- "Every input is checked, used or not. The lowest number wins." Definitions only.
 use Rattle.std.specs.Prelude.{Bool, true, false, not, ◌&&◌, List, ℕ, zero, suc, ◌+◌, ◌*◌, ◌/◌, min, eqb, leb, ltb, length, get_or, take, Float}
 use Rattle.std.specs.Float.Ieee.{lt}
-use Rattle.floats.specs.Exact.{sized_of, zero_f}
+use Rattle.compress.specs.Constants.{zero64}
+use Rattle.floats.specs.Exact.{sized_of}
 use Rattle.compress.specs.declared.Uv.{Uv}
 use Rattle.compress.specs.declared.Curve.{Curve}
 use Rattle.compress.specs.declared.Curve.TheVariants.{Span, Seam}
@@ -10,7 +11,7 @@ use Rattle.compress.specs.declared.Edge.{Edge}
 use Rattle.compress.specs.declared.Vertex.{Vertex}
 use Rattle.compress.specs.declared.Vertex.TheVariants.{Given, Pending}
 use Rattle.compress.specs.Records.{pick, first_of, last_of}
-use Rattle.compress.specs.Rows.{edge_at, vertex_at}
+use Rattle.compress.specs.Rows.{numbers_per_edge, floats_per_edge, numbers_per_vertex, floats_per_vertex, edge_kind_at, vertex_kind_at, curve_kind_at, edge_at, vertex_at}
 use Rattle.compress.specs.Wires.{total}
 
 -- the cause n where the test holds
@@ -59,7 +60,7 @@ parameter_cause t0 t1 t = lower_of (float_cause t) (lower_of (when (lt t t0) 5) 
 
 -- 5: "period not above 0"
 unfoldable pub period_cause : Float → ℕ
-period_cause p = lower_of (float_cause p) (when (not (lt zero_f p)) 5)
+period_cause p = lower_of (float_cause p) (when (not (lt zero64 p)) 5)
 
 -- ---- records
 
@@ -84,7 +85,7 @@ vertex_cause (Pending c t) = lower_of (curve_cause c) (parameter_cause (first_of
 -- ---- rows: the kinds, and the record
 
 unfoldable pub edge_row_cause : ℕ → List ℕ → List Float → ℕ → ℕ
-edge_row_cause vertices ns fs i = lower_of (kind_cause (get_or ns (i * 4 + 2) 0)) (edge_cause vertices (edge_at ns fs i))
+edge_row_cause vertices ns fs i = lower_of (kind_cause (edge_kind_at ns i)) (edge_cause vertices (edge_at ns fs i))
 
 -- only a pending vertex has a curve kind
 abbrev pub curve_kind_cause : ℕ → ℕ → ℕ
@@ -92,8 +93,8 @@ curve_kind_cause kind curve_kind = when (eqb kind 1 && ltb 1 curve_kind) 1
 
 unfoldable pub vertex_row_cause : List ℕ → List Float → ℕ → ℕ
 vertex_row_cause ns fs i =
-    lower_of (kind_cause (get_or ns (i * 3) 0))
-    (lower_of (curve_kind_cause (get_or ns (i * 3) 0) (get_or ns (i * 3 + 1) 0)) (vertex_cause (vertex_at ns fs i)))
+    lower_of (kind_cause (vertex_kind_at ns i))
+    (lower_of (curve_kind_cause (vertex_kind_at ns i) (curve_kind_at ns i)) (vertex_cause (vertex_at ns fs i)))
 
 -- ---- tables: 1 where "a bound on a count is passed by the input" or "a count .. is above what was lent", else the lowest of its rows
 
@@ -102,17 +103,17 @@ abbrev pub table_cause : ℕ → ℕ → (ℕ → ℕ) → List ℕ → List Flo
 table_cause w v row ns fs n = pick (ltb 4096 n) 1 (pick (ltb (length ns) (n * w)) 1 (pick (ltb (length fs) (n * v)) 1 (lowest_of row n)))
 
 unfoldable pub edges_cause : ℕ → List ℕ → List Float → ℕ → ℕ
-edges_cause vertices ns fs n = table_cause 4 6 (edge_row_cause vertices ns fs) ns fs n
+edges_cause vertices ns fs n = table_cause numbers_per_edge floats_per_edge (edge_row_cause vertices ns fs) ns fs n
 
 unfoldable pub vertices_cause : List ℕ → List Float → ℕ → ℕ
-vertices_cause ns fs n = table_cause 3 7 (vertex_row_cause ns fs) ns fs n
+vertices_cause ns fs n = table_cause numbers_per_vertex floats_per_vertex (vertex_row_cause ns fs) ns fs n
 
 -- 7: "Any vertex lent to nearest ends or to the non-simple search is pending". A table that does not lie in its slice has cause 1.
 abbrev pub pending_row_cause : List ℕ → ℕ → ℕ
-pending_row_cause ns i = when (eqb (get_or ns (i * 3) 0) 1) 7
+pending_row_cause ns i = when (eqb (vertex_kind_at ns i) 1) 7
 
 unfoldable pub pending_cause : List ℕ → ℕ → ℕ
-pending_cause ns n = pick (ltb 4096 n) 0 (pick (ltb (length ns) (n * 3)) 0 (lowest_of (pending_row_cause ns) n))
+pending_cause ns n = pick (ltb 4096 n) 0 (pick (ltb (length ns) (n * numbers_per_vertex)) 0 (lowest_of (pending_row_cause ns) n))
 
 -- ---- wires: n of them, with as many lengths, and as many uses as the sum of these
 

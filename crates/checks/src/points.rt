@@ -2,32 +2,33 @@
 
 ghost use Rattle.std.specs.Prelude.{◌≡◌, eqb};
 ghost use Rattle.compress.specs.Refusals.{cause_of};
-ghost use Rattle.compress.specs.Rows.{HasRow};
+ghost use Rattle.compress.specs.Rows.{HasVertex};
 ghost use Rattle.checks.specs.Causes.{lower_of, vertex_row_cause, pending_row_cause};
 ghost use Rattle.checks.specs.points.Tables.{tables_cause};
 
 use crate::tables;
-use compress::{Checked, Refusal, Vertex, Xyz};
+use compress::{Checked, FLOATS_PER_VERTEX, NUMBERS_PER_VERTEX, Refusal, Vertex, Xyz};
 use rows::tables::{Table, Tables};
 
 // Whether the vertex of row i is given, and without a cause.
 fn is_given_sound(vertices: &Table<Vertex>, i: usize) -> bool
-    requires { HasRow 3 7 vertices.now.numbers.now vertices.now.floats.now i }
+    requires { HasVertex vertices.now.numbers.now vertices.now.floats.now i }
     ensures { let v = vertices.now in
         result ≡ eqb (lower_of (vertex_row_cause v.numbers.now v.floats.now i) (pending_row_cause v.numbers.now i)) 0 }
 {
-    if vertices.numbers[i * 3] != 0 {
+    if vertices.numbers[i * NUMBERS_PER_VERTEX] != 0 {
         return false;
     }
-    tables::is_point_sound(Xyz::read(vertices.floats, i * 7))
+    tables::is_point_sound(Xyz::read(vertices.floats, i * FLOATS_PER_VERTEX))
 }
 
 // Cause 7 of the vertex in row i. A kind is judged as the number that is lent: the C interface.
 fn pending_row(vertices: &Table<Vertex>, i: usize) -> Checked
-    requires { HasRow 3 7 vertices.now.numbers.now vertices.now.floats.now i }
+    requires { HasVertex vertices.now.numbers.now vertices.now.floats.now i }
     ensures { cause_of result ≡ pending_row_cause vertices.now.numbers.now i }
 {
-    crate::cause_when(vertices.numbers[i * 3] == 1, Refusal::PendingVertex)
+    let kind = vertices.numbers[i * NUMBERS_PER_VERTEX];
+    crate::cause_when(kind == 1, Refusal::PendingVertex)
 }
 
 // Causes 1 to 5 of both tables, and 7.

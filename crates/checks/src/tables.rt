@@ -3,21 +3,24 @@
 ghost use Rattle.std.specs.Prelude.{◌≡◌, true, ℕ, ◌+◌, ◌*◌, ◌≤◌, ◌<◌, eqb, length, get_or};
 ghost use Rattle.std.specs.Float.{nan};
 ghost use Rattle.compress.specs.Refusals.{cause_of};
-ghost use Rattle.compress.specs.Rows.{HasRow, curve_at};
+ghost use Rattle.compress.specs.Rows.{floats_per_edge, floats_per_vertex, parameter_place, HasVertex, HasEdge, curve_at};
 ghost use Rattle.compress.specs.Shell.{rows_fit};
 ghost use Rattle.compress.specs.declared.Vertex.TheVariants.{Pending};
 ghost use Rattle.checks.specs.Causes.{table_cause, range_cause, parameter_cause, uv_cause, curve_cause, vertex_cause, point_cause, curve_kind_cause, edge_row_cause, vertex_row_cause, edges_cause, vertices_cause};
 
-use compress::{Checked, Edge, Refusal, Uv, Vertex, Xyz};
+use compress::{
+    CURVE_KIND, Checked, EDGE_KIND, Edge, FLOATS_PER_EDGE, FLOATS_PER_VERTEX, NUMBERS_PER_EDGE,
+    NUMBERS_PER_VERTEX, PARAMETER, Refusal, T0, T1, Uv, Vertex, Xyz,
+};
 use rows::tables::{Row, Table};
 
 // ---- rows
 
 fn edge_row(vertices: usize, edges: &Table<Edge>, i: usize) -> Checked
-    requires { HasRow 4 6 edges.now.numbers.now edges.now.floats.now i }
+    requires { HasEdge edges.now.numbers.now edges.now.floats.now i }
     ensures { cause_of result ≡ edge_row_cause vertices edges.now.numbers.now edges.now.floats.now i }
 {
-    let k = crate::kind(edges.numbers[i * 4 + 2]);
+    let k = crate::kind(edges.numbers[i * NUMBERS_PER_EDGE + EDGE_KIND]);
     crate::lower(k, crate::edge(vertices, edges.at(i)))
 }
 
@@ -31,12 +34,12 @@ fn curve_kind(kind: u32, curve_kind: u32) -> Checked
 }
 
 pub fn vertex_row(vertices: &Table<Vertex>, i: usize) -> Checked
-    requires { HasRow 3 7 vertices.now.numbers.now vertices.now.floats.now i }
+    requires { HasVertex vertices.now.numbers.now vertices.now.floats.now i }
     ensures { cause_of result ≡ vertex_row_cause vertices.now.numbers.now vertices.now.floats.now i }
 {
-    let a = i * 3;
+    let a = i * NUMBERS_PER_VERTEX;
     let k = crate::kind(vertices.numbers[a]);
-    let c = curve_kind(vertices.numbers[a], vertices.numbers[a + 1]);
+    let c = curve_kind(vertices.numbers[a], vertices.numbers[a + CURVE_KIND]);
     crate::lower(k, crate::lower(c, crate::vertex(vertices.at(i))))
 }
 
@@ -77,10 +80,10 @@ pub(crate) fn is_point_sound(p: Xyz) -> bool
 
 // A curve whose six floats begin at b.
 fn is_curve_sound(kind: u32, floats: &[f64], b: usize) -> bool
-    requires { b + 6 ≤ length floats.now }
+    requires { b + floats_per_edge ≤ length floats.now }
     ensures { result ≡ true → (kind ≤ 1) × ((n : ℕ) → curve_cause (curve_at kind n floats.now b) ≡ 0) }
 {
-    if !is_range_sound(floats[b + 4], floats[b + 5]) {
+    if !is_range_sound(floats[b + T0], floats[b + T1]) {
         return false;
     }
     if kind == 0 {
@@ -94,47 +97,48 @@ fn is_curve_sound(kind: u32, floats: &[f64], b: usize) -> bool
 
 // The edge of row i, between vertices of which there are at least `bound`.
 fn is_edge_sound(bound: u32, edges: &Table<Edge>, i: usize) -> bool
-    requires { HasRow 4 6 edges.now.numbers.now edges.now.floats.now i }
+    requires { HasEdge edges.now.numbers.now edges.now.floats.now i }
     ensures { result ≡ true → (v : ℕ) → bound ≤ v → edge_row_cause v edges.now.numbers.now edges.now.floats.now i ≡ 0 }
 {
     let numbers = edges.numbers;
-    let a = i * 4;
+    let a = i * NUMBERS_PER_EDGE;
     if numbers[a] >= bound {
         return false;
     }
     if numbers[a + 1] >= bound {
         return false;
     }
-    is_curve_sound(numbers[a + 2], edges.floats, i * 6)
+    is_curve_sound(numbers[a + EDGE_KIND], edges.floats, i * FLOATS_PER_EDGE)
 }
 
 // Whether the curve of a pending vertex, of this kind and from place b on, and the parameter behind it have no cause.
 fn is_pending_sound(kind: u32, floats: &[f64], b: usize) -> bool
-    requires { b + 7 ≤ length floats.now }
+    requires { b + floats_per_vertex ≤ length floats.now }
     ensures { result ≡ true → (kind ≤ 1) × ((n : ℕ) →
-        vertex_cause (Pending (curve_at kind n floats.now b) (get_or floats.now (b + 6) nan)) ≡ 0) }
+        vertex_cause (Pending (curve_at kind n floats.now b) (get_or floats.now (b + parameter_place) nan)) ≡ 0) }
 {
     if !is_curve_sound(kind, floats, b) {
         return false;
     }
-    is_parameter_sound(floats[b + 4], floats[b + 5], floats[b + 6])
+    is_parameter_sound(floats[b + T0], floats[b + T1], floats[b + PARAMETER])
 }
 
 fn is_vertex_sound(vertices: &Table<Vertex>, i: usize) -> bool
-    requires { HasRow 3 7 vertices.now.numbers.now vertices.now.floats.now i }
+    requires { HasVertex vertices.now.numbers.now vertices.now.floats.now i }
     ensures { result ≡ true → vertex_row_cause vertices.now.numbers.now vertices.now.floats.now i ≡ 0 }
 {
     let numbers = vertices.numbers;
     let floats = vertices.floats;
-    let b = i * 7;
-    let kind = numbers[i * 3];
+    let a = i * NUMBERS_PER_VERTEX;
+    let b = i * FLOATS_PER_VERTEX;
+    let kind = numbers[a];
     if kind == 0 {
         return is_point_sound(Xyz::read(floats, b));
     }
     if kind != 1 {
         return false;
     }
-    is_pending_sound(numbers[i * 3 + 1], floats, b)
+    is_pending_sound(numbers[a + CURVE_KIND], floats, b)
 }
 
 // ---- tables

@@ -142,6 +142,12 @@ module _ {R : Type 0} where
       let p : a + suc i ≡ (a + 1) + i = omega arith in
       rw p (get_d_rows d at (a + 1) n i (omega arith))
 
+  -- and of rows from the first on
+  pub row_at : (d : R) (at : ℕ → R) (n i : ℕ) → i < n → get_or (rows at 0 n) i d ≡ at i
+  row_at d at n i h =
+      let p : 0 + i ≡ i = omega arith in
+      get_d_rows d at 0 n i h ∙ ap at p
+
 -- rows put where they stand change nothing
 pub store_same : {A R : Type 0} (l : Layout A R) (s : List A) (at : ℕ → R) (i n : ℕ)
     → ((j : ℕ) → i ≤ j → j < i + n → put l s j (at j) ≡ s) → store_from l s i (rows at i n) ≡ s

@@ -2,7 +2,9 @@ pub mod Choices
 pub mod Cells
 pub mod Rest
 pub mod Layouts
+pub mod Reading
 pub mod Rows
 pub mod Room
 pub mod Wires
+pub mod Loading
 pub mod Refused

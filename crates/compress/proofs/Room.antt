@@ -10,6 +10,7 @@ use lib.ListN.{length}
 use lib.Ieee.{Float}
 use Rattle.std.proofs.lemmas.Bool.{and_parts}
 use Rattle.compress.specs.Shell.{rows_fit, vertices_fit, edges_fit, uses_fit}
+use Rattle.compress.specs.Rows.{numbers_per_edge, floats_per_edge, numbers_per_vertex, floats_per_vertex}
 
 three : (a b c : ℕ) (x y z : ℕ) → (leb a x && (leb b y && leb c z)) ≡ true → (a ≤ x) × (b ≤ y) × (c ≤ z)
 three a b c x y z e =
@@ -20,13 +21,13 @@ three a b c x y z e =
 pub rows_room : (w v : ℕ) (ns : List ℕ) (fs : List Float) (n : ℕ) → rows_fit w v ns fs n ≡ true → (n ≤ 4096) × (n * w ≤ length ns) × (n * v ≤ length fs)
 rows_room w v ns fs n e = three n (n * w) (n * v) 4096 (length ns) (length fs) e
 
-pub vertices_room : (ns : List ℕ) (fs : List Float) (n : ℕ) → vertices_fit ns fs n ≡ true → (n ≤ 4096) × (n * 3 ≤ length ns) × (n * 7 ≤ length fs)
+pub vertices_room : (ns : List ℕ) (fs : List Float) (n : ℕ) → vertices_fit ns fs n ≡ true → (n ≤ 4096) × (n * numbers_per_vertex ≤ length ns) × (n * floats_per_vertex ≤ length fs)
 unfolding vertices_fit
-vertices_room = rows_room 3 7
+vertices_room = rows_room numbers_per_vertex floats_per_vertex
 
-pub edges_room : (ns : List ℕ) (fs : List Float) (n : ℕ) → edges_fit ns fs n ≡ true → (n ≤ 4096) × (n * 4 ≤ length ns) × (n * 6 ≤ length fs)
+pub edges_room : (ns : List ℕ) (fs : List Float) (n : ℕ) → edges_fit ns fs n ≡ true → (n ≤ 4096) × (n * numbers_per_edge ≤ length ns) × (n * floats_per_edge ≤ length fs)
 unfolding edges_fit
-edges_room = rows_room 4 6
+edges_room = rows_room numbers_per_edge floats_per_edge
 
 pub uses_room : (us : List ℕ) (n : ℕ) → uses_fit us n ≡ true → (n ≤ 1024) × (n ≤ length us)
 unfolding uses_fit

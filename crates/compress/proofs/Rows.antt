@@ -18,7 +18,7 @@ use Rattle.compress.specs.declared.Vertex.{Vertex}
 use Rattle.compress.specs.declared.Vertex.TheVariants.{Given, Pending}
 use Rattle.compress.specs.Records.{pick, kind_of, number_of}
 use Rattle.compress.specs.Layout.{put}
-use Rattle.compress.specs.Rows.{curve_of, edge_of, edge_at, vertex_of, vertex_at, curve_first, curve_cells, vertex_first, vertex_cells, edge_number_layout, edge_float_layout, vertex_number_layout, vertex_float_layout}
+use Rattle.compress.specs.Rows.{edge_curve, vertex_curve, curve_kind_at, vertex_kind_at, edge_kind_at, numbers_per_edge, floats_per_edge, numbers_per_vertex, floats_per_vertex, curve_of, edge_of, edge_at, vertex_of, vertex_at, curve_first, curve_cells, vertex_first, vertex_cells, edge_number_layout, edge_float_layout, vertex_number_layout, vertex_float_layout}
 use Rattle.compress.proofs.Cells.{sets_append, sets_same, cells_at}
 use Rattle.compress.proofs.Layouts.{Fits, put_at, put_other}
 
@@ -56,7 +56,7 @@ pending_cells fs gs b c t e =
 -- ---- what was put is read back
 module _ (ns : List ℕ) (fs : List Float) (i : ℕ) where
   -- the cells of the row, read from a slice in which the record was put
-  edge_numbers_same : (e : Edge) (k m : ℕ) → i * 4 + 4 ≤ length ns → m ≡ i * 4 + k → k < 4
+  edge_numbers_same : (e : Edge) (k m : ℕ) → i * numbers_per_edge + numbers_per_edge ≤ length ns → m ≡ i * numbers_per_edge + k → k < length (edge_number_layout.cells e)
       → get_or (put edge_number_layout ns i e) m 0 ≡ get_or (edge_number_layout.cells e) k 0
   unfolding edge_number_layout
   edge_numbers_same e k m h q hk = put_at edge_number_layout 0 ns i k m e (omega arith) hk (omega arith)
@@ -77,94 +77,94 @@ module _ (ns : List ℕ) (fs : List Float) (i : ℕ) where
         at 5 (w + 5) (omega arith) (omega arith),
       )
 
-  pub edge_same : (e : Edge) → i * 4 + 4 ≤ length ns → i * 6 + 6 ≤ length fs
+  pub edge_same : (e : Edge) → i * numbers_per_edge + numbers_per_edge ≤ length ns → i * floats_per_edge + floats_per_edge ≤ length fs
       → edge_at (put edge_number_layout ns i e) (put edge_float_layout fs i e) i ≡ e
   unfolding edge_of edge_number_layout edge_float_layout
   edge_same e hn hf =
       rw (
-        edge_numbers_same e 0 (i * 4) hn (omega arith) (omega arith),
-        edge_numbers_same e 1 (i * 4 + 1) hn (omega arith) (omega arith),
-        edge_numbers_same e 2 (i * 4 + 2) hn (omega arith) (omega arith),
-        edge_numbers_same e 3 (i * 4 + 3) hn (omega arith) (omega arith),
-        curve_same e.curve (put edge_float_layout fs i e) (i * 6)
+        edge_numbers_same e 0 (i * numbers_per_edge) hn (omega arith) (omega arith),
+        edge_numbers_same e 1 (i * numbers_per_edge + 1) hn (omega arith) (omega arith),
+        edge_numbers_same e 2 (i * numbers_per_edge + 2) hn (omega arith) (omega arith),
+        edge_numbers_same e 3 (i * numbers_per_edge + 3) hn (omega arith) (omega arith),
+        curve_same e.curve (put edge_float_layout fs i e) (i * floats_per_edge)
             (λ k m q hk. put_at edge_float_layout nan fs i k m e q hk (omega (arith, curve_fits e.curve))),
       )
 
-  vertex_floats_same : (v : Vertex) (k m : ℕ) → i * 7 + 7 ≤ length fs → m ≡ (i * 7 + vertex_float_layout.first v) + k → k < length (vertex_float_layout.cells v)
+  vertex_floats_same : (v : Vertex) (k m : ℕ) → i * floats_per_vertex + floats_per_vertex ≤ length fs → m ≡ (i * floats_per_vertex + vertex_float_layout.first v) + k → k < length (vertex_float_layout.cells v)
       → get_or (put vertex_float_layout fs i v) m nan ≡ get_or (vertex_float_layout.cells v) k nan
   unfolding vertex_float_layout Fits
   vertex_floats_same v k m h q hk = put_at vertex_float_layout nan fs i k m v q hk (omega (arith, vertex_floats_fit v))
 
-  vertex_numbers_same : (v : Vertex) (k m : ℕ) → i * 3 + 3 ≤ length ns → m ≡ i * 3 + k → k < length (vertex_number_layout.cells v)
+  vertex_numbers_same : (v : Vertex) (k m : ℕ) → i * numbers_per_vertex + numbers_per_vertex ≤ length ns → m ≡ i * numbers_per_vertex + k → k < length (vertex_number_layout.cells v)
       → get_or (put vertex_number_layout ns i v) m 0 ≡ get_or (vertex_number_layout.cells v) k 0
   unfolding vertex_number_layout Fits
   vertex_numbers_same v k m h q hk = put_at vertex_number_layout 0 ns i k m v (omega arith) hk (omega (arith, vertex_numbers_fit v))
 
-  pub vertex_same : (v : Vertex) → i * 3 + 3 ≤ length ns → i * 7 + 7 ≤ length fs
+  pub vertex_same : (v : Vertex) → i * numbers_per_vertex + numbers_per_vertex ≤ length ns → i * floats_per_vertex + floats_per_vertex ≤ length fs
       → vertex_at (put vertex_number_layout ns i v) (put vertex_float_layout fs i v) i ≡ v
   unfolding vertex_of vertex_number_layout vertex_float_layout
   vertex_same (Given x y z) hn hf =
       rw (
-        vertex_numbers_same (Given x y z) 0 (i * 3) hn (omega arith) (omega arith),
-        vertex_floats_same (Given x y z) 0 (i * 7) hf (omega arith) (omega arith),
-        vertex_floats_same (Given x y z) 1 (i * 7 + 1) hf (omega arith) (omega arith),
-        vertex_floats_same (Given x y z) 2 (i * 7 + 2) hf (omega arith) (omega arith),
+        vertex_numbers_same (Given x y z) 0 (i * numbers_per_vertex) hn (omega arith) (omega arith),
+        vertex_floats_same (Given x y z) 0 (i * floats_per_vertex) hf (omega arith) (omega arith),
+        vertex_floats_same (Given x y z) 1 (i * floats_per_vertex + 1) hf (omega arith) (omega arith),
+        vertex_floats_same (Given x y z) 2 (i * floats_per_vertex + 2) hf (omega arith) (omega arith),
       )
   vertex_same (Pending c t) hn hf =
       let gs = put vertex_float_layout fs i (Pending c t) in
       let six = curve_fits c in
       let len : length (curve_cells c ++ (t ∷ [])) ≡ length (curve_cells c) + 1 = length-append (curve_cells c) (t ∷ []) in
-      let at : (k m : ℕ) → m ≡ (i * 7 + curve_first c) + k → k < length (curve_cells c) → get_or gs m nan ≡ get_or (curve_cells c) k nan
+      let at : (k m : ℕ) → m ≡ (i * floats_per_vertex + curve_first c) + k → k < length (curve_cells c) → get_or gs m nan ≡ get_or (curve_cells c) k nan
       = λ k m q hk. vertex_floats_same (Pending c t) k m hf q (omega arith) ∙ get_or-append (curve_cells c) (t ∷ []) nan k hk in
-      let last : get_or gs (i * 7 + 6) nan ≡ t
-      = vertex_floats_same (Pending c t) (length (curve_cells c)) (i * 7 + 6) hf (omega arith) (omega arith) ∙ get_or-append_seam (curve_cells c) t [] nan in
+      let last : get_or gs (i * floats_per_vertex + 6) nan ≡ t
+      = vertex_floats_same (Pending c t) (length (curve_cells c)) (i * floats_per_vertex + 6) hf (omega arith) (omega arith) ∙ get_or-append_seam (curve_cells c) t [] nan in
       rw (
-        vertex_numbers_same (Pending c t) 0 (i * 3) hn (omega arith) (omega arith),
-        vertex_numbers_same (Pending c t) 1 (i * 3 + 1) hn (omega arith) (omega arith),
-        vertex_numbers_same (Pending c t) 2 (i * 3 + 2) hn (omega arith) (omega arith),
+        vertex_numbers_same (Pending c t) 0 (i * numbers_per_vertex) hn (omega arith) (omega arith),
+        vertex_numbers_same (Pending c t) 1 (i * numbers_per_vertex + 1) hn (omega arith) (omega arith),
+        vertex_numbers_same (Pending c t) 2 (i * numbers_per_vertex + 2) hn (omega arith) (omega arith),
         last,
-        curve_same c gs (i * 7) at,
+        curve_same c gs (i * floats_per_vertex) at,
       )
 
   -- ---- other rows are as they were
   pub edge_other : (e : Edge) (m : ℕ) → (m ≡ i → ⊥) → edge_at (put edge_number_layout ns i e) (put edge_float_layout fs i e) m ≡ edge_at ns fs m
   unfolding edge_number_layout edge_float_layout
   edge_other e m ne =
-      let n : (k p : ℕ) → p ≡ m * 4 + k → k < 4 → get_or (put edge_number_layout ns i e) p 0 ≡ get_or ns p 0
+      let n : (k p : ℕ) → p ≡ m * numbers_per_edge + k → k < numbers_per_edge → get_or (put edge_number_layout ns i e) p 0 ≡ get_or ns p 0
       = λ k p q h. put_other edge_number_layout edge_numbers_fit 0 ns i m k p e ne q h in
-      let f : (k p : ℕ) → p ≡ m * 6 + k → k < 6 → get_or (put edge_float_layout fs i e) p nan ≡ get_or fs p nan
+      let f : (k p : ℕ) → p ≡ m * floats_per_edge + k → k < floats_per_edge → get_or (put edge_float_layout fs i e) p nan ≡ get_or fs p nan
       = λ k p q h. put_other edge_float_layout edge_floats_fit nan fs i m k p e ne q h in
       rw (
-        n 0 (m * 4) (omega arith) (omega arith),
-        n 1 (m * 4 + 1) (omega arith) (omega arith),
-        n 2 (m * 4 + 2) (omega arith) (omega arith),
-        n 3 (m * 4 + 3) (omega arith) (omega arith),
-        f 0 (m * 6) (omega arith) (omega arith),
-        f 1 (m * 6 + 1) (omega arith) (omega arith),
-        f 2 (m * 6 + 2) (omega arith) (omega arith),
-        f 3 (m * 6 + 3) (omega arith) (omega arith),
-        f 4 (m * 6 + 4) (omega arith) (omega arith),
-        f 5 (m * 6 + 5) (omega arith) (omega arith),
+        n 0 (m * numbers_per_edge) (omega arith) (omega arith),
+        n 1 (m * numbers_per_edge + 1) (omega arith) (omega arith),
+        n 2 (m * numbers_per_edge + 2) (omega arith) (omega arith),
+        n 3 (m * numbers_per_edge + 3) (omega arith) (omega arith),
+        f 0 (m * floats_per_edge) (omega arith) (omega arith),
+        f 1 (m * floats_per_edge + 1) (omega arith) (omega arith),
+        f 2 (m * floats_per_edge + 2) (omega arith) (omega arith),
+        f 3 (m * floats_per_edge + 3) (omega arith) (omega arith),
+        f 4 (m * floats_per_edge + 4) (omega arith) (omega arith),
+        f 5 (m * floats_per_edge + 5) (omega arith) (omega arith),
       )
 
   pub vertex_other : (v : Vertex) (m : ℕ) → (m ≡ i → ⊥) → vertex_at (put vertex_number_layout ns i v) (put vertex_float_layout fs i v) m ≡ vertex_at ns fs m
   unfolding vertex_number_layout vertex_float_layout
   vertex_other v m ne =
-      let n : (k p : ℕ) → p ≡ m * 3 + k → k < 3 → get_or (put vertex_number_layout ns i v) p 0 ≡ get_or ns p 0
+      let n : (k p : ℕ) → p ≡ m * numbers_per_vertex + k → k < numbers_per_vertex → get_or (put vertex_number_layout ns i v) p 0 ≡ get_or ns p 0
       = λ k p q h. put_other vertex_number_layout vertex_numbers_fit 0 ns i m k p v ne q h in
-      let f : (k p : ℕ) → p ≡ m * 7 + k → k < 7 → get_or (put vertex_float_layout fs i v) p nan ≡ get_or fs p nan
+      let f : (k p : ℕ) → p ≡ m * floats_per_vertex + k → k < floats_per_vertex → get_or (put vertex_float_layout fs i v) p nan ≡ get_or fs p nan
       = λ k p q h. put_other vertex_float_layout vertex_floats_fit nan fs i m k p v ne q h in
       rw (
-        n 0 (m * 3) (omega arith) (omega arith),
-        n 1 (m * 3 + 1) (omega arith) (omega arith),
-        n 2 (m * 3 + 2) (omega arith) (omega arith),
-        f 0 (m * 7) (omega arith) (omega arith),
-        f 1 (m * 7 + 1) (omega arith) (omega arith),
-        f 2 (m * 7 + 2) (omega arith) (omega arith),
-        f 3 (m * 7 + 3) (omega arith) (omega arith),
-        f 4 (m * 7 + 4) (omega arith) (omega arith),
-        f 5 (m * 7 + 5) (omega arith) (omega arith),
-        f 6 (m * 7 + 6) (omega arith) (omega arith),
+        n 0 (m * numbers_per_vertex) (omega arith) (omega arith),
+        n 1 (m * numbers_per_vertex + 1) (omega arith) (omega arith),
+        n 2 (m * numbers_per_vertex + 2) (omega arith) (omega arith),
+        f 0 (m * floats_per_vertex) (omega arith) (omega arith),
+        f 1 (m * floats_per_vertex + 1) (omega arith) (omega arith),
+        f 2 (m * floats_per_vertex + 2) (omega arith) (omega arith),
+        f 3 (m * floats_per_vertex + 3) (omega arith) (omega arith),
+        f 4 (m * floats_per_vertex + 4) (omega arith) (omega arith),
+        f 5 (m * floats_per_vertex + 5) (omega arith) (omega arith),
+        f 6 (m * floats_per_vertex + 6) (omega arith) (omega arith),
       )
 
 -- ---- a record put where it stands changes nothing, where its kinds are known ones
@@ -206,19 +206,19 @@ module _ (j : ℕ) where
   five : j + 5 ≡ suc (suc (suc (suc (suc j))))
   five = omega arith
 
-pub edge_numbers_stand : (ns : List ℕ) (fs : List Float) (i : ℕ) → get_or ns (i * 4 + 2) 0 < 2 → put edge_number_layout ns i (edge_at ns fs i) ≡ ns
+pub edge_numbers_stand : (ns : List ℕ) (fs : List Float) (i : ℕ) → edge_kind_at ns i < 2 → put edge_number_layout ns i (edge_at ns fs i) ≡ ns
 unfolding put edge_number_layout edge_of cells_at
 edge_numbers_stand ns fs i h =
-    let z : i * 4 + 0 ≡ i * 4 = omega arith in
+    let z : i * numbers_per_edge + 0 ≡ i * numbers_per_edge = omega arith in
     rw (
-      kind_kept (get_or ns (i * 4 + 2) 0) (get_or ns (i * 4 + 3) 0) _ _ _ _ h,
-      number_kept (get_or ns (i * 4 + 2) 0) (get_or ns (i * 4 + 3) 0) _ _ _ _,
+      kind_kept (edge_kind_at ns i) (get_or ns (i * numbers_per_edge + edge_curve) 0) _ _ _ _ h,
+      number_kept (edge_kind_at ns i) (get_or ns (i * numbers_per_edge + edge_curve) 0) _ _ _ _,
       z,
-      one (i * 4),
-      two (i * 4),
-      three (i * 4),
+      one (i * numbers_per_edge),
+      two (i * numbers_per_edge),
+      three (i * numbers_per_edge),
     )
-    (sets_same 0 ns (i * 4) 4)
+    (sets_same 0 ns (i * numbers_per_edge) 4)
 
 -- whatever the kind says, the cells that are read are those that are written
 curve_stands : (t : Bool) (n : ℕ) (fs : List Float) (j : ℕ)
@@ -237,28 +237,28 @@ curve_stands false n fs j =
 
 pub edge_floats_stand : (ns : List ℕ) (fs : List Float) (i : ℕ) → put edge_float_layout fs i (edge_at ns fs i) ≡ fs
 unfolding put edge_float_layout edge_of curve_of
-edge_floats_stand ns fs i = curve_stands (eqb (get_or ns (i * 4 + 2) 0) 0) (get_or ns (i * 4 + 3) 0) fs (i * 6)
+edge_floats_stand ns fs i = curve_stands (eqb (edge_kind_at ns i) 0) (get_or ns (i * numbers_per_edge + edge_curve) 0) fs (i * floats_per_edge)
 
 -- "kind 1" of a vertex is a pending one, which has a curve
-pub vertex_numbers_stand : (ns : List ℕ) (fs : List Float) (i : ℕ) → get_or ns (i * 3) 0 < 2 → (get_or ns (i * 3) 0 ≡ 1 → get_or ns (i * 3 + 1) 0 < 2)
+pub vertex_numbers_stand : (ns : List ℕ) (fs : List Float) (i : ℕ) → vertex_kind_at ns i < 2 → (vertex_kind_at ns i ≡ 1 → curve_kind_at ns i < 2)
     → put vertex_number_layout ns i (vertex_at ns fs i) ≡ ns
 unfolding put vertex_number_layout vertex_of cells_at
 vertex_numbers_stand ns fs i h g =
-    let z : i * 3 + 0 ≡ i * 3 = omega arith in
-    let k = get_or ns (i * 3) 0 in
+    let z : i * numbers_per_vertex + 0 ≡ i * numbers_per_vertex = omega arith in
+    let k = vertex_kind_at ns i in
     ⊎_elim
-    (λ (e : k ≡ 0). rw (e, z, ← e) (sets_same 0 ns (i * 3) 1))
+    (λ (e : k ≡ 0). rw (e, z, ← e) (sets_same 0 ns (i * numbers_per_vertex) 1))
     (λ (e : k ≡ 1).
     rw (
       e,
-      kind_kept (get_or ns (i * 3 + 1) 0) (get_or ns (i * 3 + 2) 0) _ _ _ _ (g e),
-      number_kept (get_or ns (i * 3 + 1) 0) (get_or ns (i * 3 + 2) 0) _ _ _ _,
+      kind_kept (curve_kind_at ns i) (get_or ns (i * numbers_per_vertex + vertex_curve) 0) _ _ _ _ (g e),
+      number_kept (curve_kind_at ns i) (get_or ns (i * numbers_per_vertex + vertex_curve) 0) _ _ _ _,
       z,
-      one (i * 3),
-      two (i * 3),
+      one (i * numbers_per_vertex),
+      two (i * numbers_per_vertex),
       ← e,
     )
-    (sets_same 0 ns (i * 3) 3))
+    (sets_same 0 ns (i * numbers_per_vertex) 3))
     (two_kinds k h)
 
 pending_stands : (s t : Bool) (n : ℕ) (fs : List Float) (j : ℕ) (v : Vertex)
@@ -283,4 +283,4 @@ pending_stands false false n fs j v e =
 pub vertex_floats_stand : (ns : List ℕ) (fs : List Float) (i : ℕ) → put vertex_float_layout fs i (vertex_at ns fs i) ≡ fs
 unfolding put vertex_float_layout vertex_of curve_of
 vertex_floats_stand ns fs i =
-    pending_stands (eqb (get_or ns (i * 3) 0) 0) (eqb (get_or ns (i * 3 + 1) 0) 0) (get_or ns (i * 3 + 2) 0) fs (i * 7) (vertex_at ns fs i) refl
+    pending_stands (eqb (vertex_kind_at ns i) 0) (eqb (curve_kind_at ns i) 0) (get_or ns (i * numbers_per_vertex + vertex_curve) 0) fs (i * floats_per_vertex) (vertex_at ns fs i) refl

@@ -1,13 +1,13 @@
 -- Wires in a slice, one wire at a time.
 -- Assumes nothing.
 use mathlib.Core.Path.{◌≡◌, refl, ap, sym, ◌∙◌}
-use mathlib.Core.List.{List, [], ◌∷◌, ◌++◌}
+use mathlib.Core.List.{List, [], ◌∷◌, ◌++◌, append_assoc}
 use Prim.Native.Nat.{ℕ, suc, ◌+◌, ◌-◌, ◌≤◌, ◌<◌}
 use native.Mathlib.Numerals.{add-one}
 use native.Mathlib.Omega.{arith}
 use lib.ListN.{length, get_or, take, drop, length-drop}
-use lib.Seq.{take-suc, take-add, drop-cons, drop-drop, length-take-le, get_or-take, get_or-drop}
-use Rattle.compress.specs.Wires.{total, wires_of, uses_of, lengths_of}
+use lib.Seq.{take-append_seam, drop-append_seam, take_at, take-suc, take-add, drop-cons, drop-drop, length-take-le, get_or-take, get_or-drop}
+use Rattle.compress.specs.Wires.{total, wires_of, uses_of, lengths_of, over}
 
 module _ (us ls : List ℕ) (n w from : ℕ) (lent : n ≤ length ls) (lt : w < n) where
   -- the lengths that are left: that of wire w, and the rest
@@ -73,3 +73,15 @@ length_wires us (n ∷ ls) = ap suc (length_wires (drop n us) ls)
 
 pub wire_count : (us ls : List ℕ) (n : ℕ) → n ≤ length ls → length (wires_of us (take n ls)) ≡ n
 wire_count us ls n h = length_wires us (take n ls) ∙ length-take-le n ls h
+
+-- ---- wires that were stored, read back
+wires_back : (ws : List (List ℕ)) (rest : List ℕ) → wires_of (uses_of ws ++ rest) (lengths_of ws) ≡ ws
+unfolding wires_of uses_of lengths_of
+wires_back [] rest = refl
+wires_back (w ∷ ws) rest =
+    rw (append_assoc w (uses_of ws) rest, take-append_seam w (uses_of ws ++ rest), drop-append_seam w (uses_of ws ++ rest))
+    (ap (λ (x : List (List ℕ)). w ∷ x) (wires_back ws rest))
+
+-- the wires of the uses and lengths that were stored are the wires
+pub wires_stored : (ws : List (List ℕ)) (us ls : List ℕ) → wires_of (over (uses_of ws) us) (take (length ws) (over (lengths_of ws) ls)) ≡ ws
+wires_stored ws us ls = rw (take_at (lengths_of ws) _ (length ws) (length_lengths ws)) (wires_back ws _)

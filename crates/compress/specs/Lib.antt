@@ -7,3 +7,5 @@ pub mod Layout
 pub mod Rows
 pub mod Wires
 pub mod Shell
+pub mod Constants
+pub mod Worked

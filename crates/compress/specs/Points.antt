@@ -2,7 +2,7 @@
 use Rattle.compress.specs.declared.Vertex.{Vertex}
 use Rattle.compress.specs.declared.Vertex.TheVariants.{Given, Pending}
 use Rattle.compress.specs.declared.Xyz.{Xyz}
-use Rattle.compress.specs.Choice.{zero64}
+use Rattle.compress.specs.Constants.{zero64}
 
 -- the point of a given vertex; a pending one has none, and is refused (7) before it is read
 unfoldable pub point_of : Vertex → Xyz

@@ -1,5 +1,5 @@
 -- The numbers of document 01's table, "When a call is turned away". Definitions only.
-use Rattle.std.specs.Prelude.{ℕ, Result, Ok, Err}
+use Rattle.std.specs.Prelude.{◌≡◌, ◌⊎◌, ℕ, Result, Ok, Err}
 use Rattle.compress.specs.declared.Refusal.{Refusal}
 use Rattle.compress.specs.declared.Refusal.TheVariants.{Malformed, VertexNumber, EdgeNumber, NotSized, OutOfRange, NoRoom, PendingVertex, PastEnd, OddDivisor, RepeatedVertex, DeadEnd, TooManyUses, EmptyList, SeveralCuts, EmptyOpenWire}
 
@@ -34,6 +34,14 @@ refusal_number EmptyList = 13
 refusal_number SeveralCuts = 14
 -- an empty open wire in a join
 refusal_number EmptyOpenWire = 15
+
+-- n is a number of the table: a refusal has it
+abbrev pub InTable : ℕ → Type 0
+InTable n = (r : Refusal) × (refusal_number r ≡ n)
+
+-- n is a cause: 0, which is none, or a number of the table
+abbrev pub IsCause : ℕ → Type 0
+IsCause n = (n ≡ 0) ⊎ InTable n
 
 -- the number of a cause; 0 is none
 abbrev pub cause_of : {A : Type 0} → Result A Refusal → ℕ

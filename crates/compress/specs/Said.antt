@@ -14,10 +14,14 @@ on_result (result a) f = f a
 on_result none f = none
 on_result (refused n) f = refused n
 
--- a cause, by its number, ahead of what would be said without one; 0 is no cause
+-- a cause, by its number, ahead of what there would be without one; 0 is no cause
+abbrev pub cause_or : {O : Type 0} → ℕ → (ℕ → O) → O → O
+cause_or zero refuse o = o
+cause_or (suc n) refuse o = refuse (suc n)
+
+-- the same of what is said
 abbrev pub refused_or : {A : Type 0} → ℕ → Said A → Said A
-refused_or zero s = s
-refused_or (suc n) s = refused (suc n)
+refused_or n s = cause_or n refused s
 
 -- An answer in these terms, with what is said of its result.
 abbrev pub said_of : {A B : Type 0} → (A → B) → Result A Refusal → Said B

@@ -4,7 +4,7 @@ use Rattle.compress.specs.declared.Edge.{Edge}
 use Rattle.compress.specs.declared.Vertex.{Vertex}
 use Rattle.compress.specs.declared.Counts.{Counts}
 use Rattle.compress.specs.Layout.{store, rows}
-use Rattle.compress.specs.Rows.{edge_at, vertex_at, edge_number_layout, edge_float_layout, vertex_number_layout, vertex_float_layout}
+use Rattle.compress.specs.Rows.{numbers_per_edge, floats_per_edge, numbers_per_vertex, floats_per_vertex, edge_at, vertex_at, edge_number_layout, edge_float_layout, vertex_number_layout, vertex_float_layout}
 use Rattle.compress.specs.Wires.{wires_of, uses_of, lengths_of, over}
 
 -- a wire is a row of uses; the wires are those of all faces, in order
@@ -50,6 +50,10 @@ store_shell s r =
       ls = over (lengths_of r.wires) s.ls;
     }
 
+-- what is lent where a shell was written over the front of the slices
+abbrev pub stored_lent : Slices → Shell → Lent
+stored_lent s r = record { slices = store_shell s r; vertices = length r.vertices; edges = length r.edges; wires = length r.wires }
+
 unfoldable pub counts_of : Shell → Counts
 counts_of r = record { vertices = length r.vertices; edges = length r.edges; uses = length (uses_of r.wires) }
 
@@ -58,10 +62,10 @@ abbrev pub rows_fit : ℕ → ℕ → List ℕ → List Float → ℕ → Bool
 rows_fit w v ns fs n = leb n 4096 && (leb (n * w) (length ns) && leb (n * v) (length fs))
 
 unfoldable pub vertices_fit : List ℕ → List Float → ℕ → Bool
-vertices_fit = rows_fit 3 7
+vertices_fit = rows_fit numbers_per_vertex floats_per_vertex
 
 unfoldable pub edges_fit : List ℕ → List Float → ℕ → Bool
-edges_fit = rows_fit 4 6
+edges_fit = rows_fit numbers_per_edge floats_per_edge
 
 -- "1,024 uses out"
 unfoldable pub uses_fit : List ℕ → ℕ → Bool

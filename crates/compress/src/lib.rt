@@ -7,7 +7,7 @@ ghost use Rattle.compress.specs.Records.{front_of, front_at, first_of, last_of};
 ghost use Rattle.compress.specs.Points.{point_of, given};
 ghost use Rattle.compress.specs.Refusals.{refusal_number};
 ghost use Rattle.compress.specs.Layout.{put};
-ghost use Rattle.compress.specs.Rows.{HasRow, curve_of, curve_at, edge_at, vertex_at};
+ghost use Rattle.compress.specs.Rows.{HasVertex, HasEdge, curve_of, curve_at, edge_at, vertex_at};
 
 // A point of a surface's parameter plane.
 #[derive(Clone, Copy)]
@@ -212,16 +212,43 @@ fn curve_at(kind: u32, number: u32, floats: &[f64], j: usize) -> Curve
 {
     let p = Uv::read(floats, j);
     let q = Uv::read(floats, j + 2);
-    curve_of(kind, number, p, q, floats[j + 4], floats[j + 5])
+    curve_of(kind, number, p, q, floats[j + T0], floats[j + T1])
 }
+
+// How many numbers, and how many floats, the row of an edge and that of a vertex have.
+pub const NUMBERS_PER_EDGE: usize = 4;
+
+pub const FLOATS_PER_EDGE: usize = 6;
+
+pub const NUMBERS_PER_VERTEX: usize = 3;
+
+pub const FLOATS_PER_VERTEX: usize = 7;
+
+// Where the kind of its curve and the number of the curve or surface stand in the numbers of an edge, behind its two vertices.
+pub const EDGE_KIND: usize = 2;
+
+pub const EDGE_CURVE: usize = 3;
+
+// The same of a pending vertex, behind its own kind.
+pub const CURVE_KIND: usize = 1;
+
+pub const VERTEX_CURVE: usize = 2;
+
+// Where t0 and t1 stand in the floats of a curve, behind the two points of a seam, and where the parameter of a pending vertex, behind those of its curve.
+pub const T0: usize = 4;
+
+pub const T1: usize = 5;
+
+pub const PARAMETER: usize = 6;
 
 // The edge of row i. Here, as `vertex_at` is, below the trait `rows::tables::Row`, since `front_at` reads a row too.
 pub fn edge_at(numbers: &[u32], floats: &[f64], i: usize) -> Edge
-    requires { HasRow 4 6 numbers.now floats.now i }
+    requires { HasEdge numbers.now floats.now i }
     ensures { result ≡ edge_at numbers.now floats.now i }
 {
-    let a = i * 4;
-    let curve = curve_at(numbers[a + 2], numbers[a + 3], floats, i * 6);
+    let a = i * NUMBERS_PER_EDGE;
+    let kind = numbers[a + EDGE_KIND];
+    let curve = curve_at(kind, numbers[a + EDGE_CURVE], floats, i * FLOATS_PER_EDGE);
     Edge {
         front: numbers[a],
         back: numbers[a + 1],
@@ -231,7 +258,7 @@ pub fn edge_at(numbers: &[u32], floats: &[f64], i: usize) -> Edge
 
 // The front of a use.
 pub fn front_at(numbers: &[u32], floats: &[f64], u: u32) -> u32
-    requires { HasRow 4 6 numbers.now floats.now (u / 2) }
+    requires { HasEdge numbers.now floats.now (u / 2) }
     ensures { result ≡ front_at (edge_at numbers.now floats.now) u }
 {
     let i = (u / 2) as usize;
@@ -240,17 +267,18 @@ pub fn front_at(numbers: &[u32], floats: &[f64], u: u32) -> u32
 
 // The vertex of row i.
 pub fn vertex_at(numbers: &[u32], floats: &[f64], i: usize) -> Vertex
-    requires { HasRow 3 7 numbers.now floats.now i }
+    requires { HasVertex numbers.now floats.now i }
     ensures { result ≡ vertex_at numbers.now floats.now i }
 {
-    let a = i * 3;
-    let b = i * 7;
+    let a = i * NUMBERS_PER_VERTEX;
+    let b = i * FLOATS_PER_VERTEX;
     if numbers[a] == 0 {
         return Vertex::from(Xyz::read(floats, b));
     }
-    let curve = curve_at(numbers[a + 1], numbers[a + 2], floats, b);
+    let kind = numbers[a + CURVE_KIND];
+    let curve = curve_at(kind, numbers[a + VERTEX_CURVE], floats, b);
     Vertex::Pending {
         curve,
-        t: floats[b + 6],
+        t: floats[b + PARAMETER],
     }
 }

@@ -4,7 +4,7 @@ ghost use Rattle.std.specs.Prelude.{◌≡◌, ℕ, ◌+◌, ◌*◌, ◌/◌, �
 ghost use Rattle.compress.specs.Choice.{smaller};
 ghost use Rattle.compress.specs.Wires.{UsesBelow};
 ghost use Rattle.compress.specs.Points.{point_of};
-ghost use Rattle.compress.specs.Rows.{HasRow};
+ghost use Rattle.compress.specs.Rows.{HasVertex};
 ghost use Rattle.compress.specs.Said.{said_if};
 ghost use Rattle.correction.specs.nearest.Ends.{point_gap, away_at, gap_of, nearest_front, nearest_ends};
 ghost use Rattle.rows.specs.Held.{vertices_in, edges_in};
@@ -48,14 +48,14 @@ pub struct Ends {
 
 // The point of vertex v.
 fn point_at(vertices: &Table<Vertex>, v: u32) -> Xyz
-    requires { HasRow 3 7 vertices.now.numbers.now vertices.now.floats.now v }
+    requires { HasVertex vertices.now.numbers.now vertices.now.floats.now v }
     ensures { result ≡ point_of (vertices_in vertices.now v) }
 {
     Xyz::from(vertices.at(v as usize))
 }
 
 fn away_at(vertices: &Table<Vertex>, from: Xyz, v: u32) -> Away
-    requires { HasRow 3 7 vertices.now.numbers.now vertices.now.floats.now v }
+    requires { HasVertex vertices.now.numbers.now vertices.now.floats.now v }
     ensures { result ≡ away_at (vertices_in vertices.now) from v }
 {
     Away {

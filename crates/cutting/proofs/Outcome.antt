@@ -25,11 +25,7 @@ use Rattle.checks.proofs.Accepted.{VerticesAccepted, EdgesAccepted, WiresAccepte
 use Rattle.checks.proofs.Lowest.{lower_none}
 use Rattle.cutting.specs.declared.mending.NoRoom.{NoRoom}
 use Rattle.cutting.specs.mending.Steps.{InPlace, count_told}
-use Rattle.cutting.specs.Contract.{Outcome, lent_of, leaves, input_cause, result_of, cause_or}
-
--- a cause: its refusal, and nothing written
-pub way_cause : (r : Refusal) (k : ℕ) (s : Slices) (o : Outcome) → refusal_number r ≡ k → record { said = refused (refusal_number r); slices = s } ≡ cause_or k s o
-way_cause r k s o e = let p = number_above r in rw (← e, p.1)
+use Rattle.cutting.specs.Contract.{Outcome, lent_of, leaves, input_cause, result_of}
 
 module _ (vn : List ℕ) (vf : List Float) (en : List ℕ) (ef : List Float) (us ls : List ℕ) (v e w : ℕ) where
   pub record Accepted : Type 0 where

@@ -7,6 +7,7 @@ pub mod mending;
 ghost use Rattle.std.specs.Prelude.{◌≡◌, ◌&&◌, ℕ, ◌+◌, ◌*◌, ◌≤◌, leb, length};
 ghost use Rattle.compress.specs.Refusals.{cause_of};
 ghost use Rattle.compress.specs.Shell.{vertices_fit, edges_fit};
+ghost use Rattle.compress.specs.Rows.{numbers_per_edge, floats_per_edge, numbers_per_vertex, floats_per_vertex};
 ghost use Rattle.cutting.specs.Contract.{input_cause, lent_of};
 
 use compress::{Checked, Edge, Vertex};
@@ -30,9 +31,9 @@ pub fn input_cause(vertices: &Table<Vertex>, edges: &Table<Edge>, wires: &Wires)
 // How many edges of a shell that has none of the causes can be cut, each by a new vertex, until a bound or a slice is full.
 pub fn cut_room(vertices: &Table<Vertex>, edges: &Table<Edge>) -> usize
     requires vertices_bound { let v = vertices.now in
-        (v.count ≤ 4096) × (v.count * 3 ≤ length v.numbers.now) × (v.count * 7 ≤ length v.floats.now) }
+        (v.count ≤ 4096) × (v.count * numbers_per_vertex ≤ length v.numbers.now) × (v.count * floats_per_vertex ≤ length v.floats.now) }
     requires edges_bound { let e = edges.now in
-        (e.count ≤ 4096) × (e.count * 4 ≤ length e.numbers.now) × (e.count * 6 ≤ length e.floats.now) }
+        (e.count ≤ 4096) × (e.count * numbers_per_edge ≤ length e.numbers.now) × (e.count * floats_per_edge ≤ length e.floats.now) }
     ensures { let v = vertices.now in
         let e = edges.now in
         (k : ℕ) → leb k result ≡

@@ -6,10 +6,10 @@ use Rattle.std.proofs.Math.Nat.{le-suc}
 use Rattle.std.specs.Float.{Format, binary64}
 use Rattle.std.specs.Float.Ieee.{emax, low, round, add, sub, mul, le}
 use Rattle.std.specs.Float.Ieee.Scale.{finite}
-use Rattle.floats.specs.Exact.{zero_f, gap2, distance2_uv, distance2_xyz}
+use Rattle.floats.specs.Exact.{gap2, distance2_uv, distance2_xyz}
 use Rattle.floats.specs.Value.{mag}
 use Rattle.floats.specs.Bounds.{Under, weaken, add_under, sub_under, mul_under}
-use Rattle.floats.specs.Mono.{add_nonneg, square_is, square_nonneg, sub_mag}
+use Rattle.floats.specs.Mono.{zero_f, add_nonneg, square_is, square_nonneg, sub_mag}
 use Rattle.floats.proofs.Sized.{Sized, sized_under}
 
 -- ---- one coordinate, and one sum, in any format

@@ -4,26 +4,22 @@ use Rattle.std.proofs.Common.{le_trans, lit<, lit≤}
 use Rattle.std.specs.Float.{binary64}
 use Rattle.std.specs.Float.Ieee.{emax, low, neg, fits, le, of_bits}
 use Rattle.std.specs.Float.Ieee.Fits.{and_l, and_r}
-use Rattle.floats.specs.Exact.{zero_f, two, big, sized_of}
+use Rattle.compress.specs.Constants.{two64}
+use Rattle.floats.specs.Exact.{big, sized_of}
 use Rattle.floats.specs.Value.{sgn, mag, Held}
 use Rattle.floats.specs.Rounds.{held_between, neg_held}
 use Rattle.floats.specs.Bounds.{Under, mag_within}
 
 -- ---- the constants
--- the literal 0.0
-pub zero_bits : of_bits binary64 0 ≡ zero_f
-unfolding of_bits
-zero_bits = refl
-
-pub two_held : Held binary64 two
+pub two_held : Held binary64 two64
 unfolding of_bits fits
 two_held = record { fit = tt; bounded = tt }
 
-pub two_sgn : sgn two ≡ false
+pub two_sgn : sgn two64 ≡ false
 unfolding of_bits
 two_sgn = refl
 
-pub two_mag : mag binary64 two ≡ 2 * 2 ^ low binary64
+pub two_mag : mag binary64 two64 ≡ 2 * 2 ^ low binary64
 unfolding of_bits
 two_mag = refl
 

@@ -1,15 +1,8 @@
 -- What the functions of the crate return, to the bit: definitions only. Each `add`, `sub`, `mul` and `div` is one IEEE 754 operation with one rounding.
-use Rattle.std.specs.Prelude.{◌≡◌, Bool, false, ◌&&◌, pos, T, Float}
-use Rattle.std.specs.Float.{fin, binary64}
+use Rattle.std.specs.Prelude.{◌≡◌, Bool, ◌&&◌, T, Float}
+use Rattle.std.specs.Float.{binary64}
 use Rattle.std.specs.Float.Ieee.{add, sub, mul, div, le, neg, of_bits}
-
--- 0.0, of any format
-abbrev pub zero_f : Float
-zero_f = fin false 0 (pos 0)
-
--- the f64 2.0, by its bits
-abbrev pub two : Float
-two = of_bits binary64 0x4000_0000_0000_0000
+use Rattle.compress.specs.Constants.{two64}
 
 -- the f64 1.0e15, by its bits
 abbrev pub big : Float
@@ -21,7 +14,7 @@ sized_of x = le (neg big) x && le x big
 
 -- Document 01, Corners of split_closed_edges.rs: "An edge with equal ends is cut at (t0 + t1) / 2."
 abbrev pub midpoint_of : Float → Float → Float
-midpoint_of t0 t1 = div binary64 (add binary64 t0 t1) two
+midpoint_of t0 t1 = div binary64 (add binary64 t0 t1) two64
 
 -- Of r, the cut parameter of t0 to t1. The same place of document 01: "the midpoint never leaves the range from t0 to t1. It may equal an end."
 pub record Midpoint (t0 t1 r : Float) : Type 0 where

@@ -2,15 +2,16 @@
 use Rattle.std.specs.Prelude.{◌≡◌, refl, true, false}
 use Rattle.std.specs.Float.{nan, inf, binary64}
 use Rattle.std.specs.Float.Ieee.{add, sub, mul, div, round, le, neg, of_bits}
-use Rattle.floats.specs.Exact.{zero_f, big, sized_of, midpoint_of, distance2_uv, distance2_xyz}
+use Rattle.compress.specs.Constants.{zero64}
+use Rattle.floats.specs.Exact.{big, sized_of, midpoint_of, distance2_uv, distance2_xyz}
 
 -- K1's edge, from 0.0 to 8.0, is cut at 4.0
-pub middle_of_0_and_8 : midpoint_of zero_f (of_bits binary64 0x4020_0000_0000_0000) ≡ of_bits binary64 0x4010_0000_0000_0000
+pub middle_of_0_and_8 : midpoint_of zero64 (of_bits binary64 0x4020_0000_0000_0000) ≡ of_bits binary64 0x4010_0000_0000_0000
 unfolding add div round of_bits
 middle_of_0_and_8 = refl
 
 -- negative zero stays negative zero
-pub middle_of_negative_zeros : midpoint_of (neg zero_f) (neg zero_f) ≡ neg zero_f
+pub middle_of_negative_zeros : midpoint_of (neg zero64) (neg zero64) ≡ neg zero64
 unfolding add div round neg of_bits
 middle_of_negative_zeros = refl
 
@@ -31,16 +32,16 @@ unfolding le neg of_bits
 negative_bound_is_sized = refl
 
 -- K17's ends, 0.03125 apart: 0.0009765625
-pub ends_of_k17 : distance2_uv zero_f zero_f (of_bits binary64 0x3fa0_0000_0000_0000) zero_f ≡ of_bits binary64 0x3f50_0000_0000_0000
+pub ends_of_k17 : distance2_uv zero64 zero64 (of_bits binary64 0x3fa0_0000_0000_0000) zero64 ≡ of_bits binary64 0x3f50_0000_0000_0000
 unfolding add sub mul round neg of_bits
 ends_of_k17 = refl
 
 -- The order of the sums is part of the definition. With differences a, 1, a, where a is 1.25 * 2 ^ -27, each of the two squares beside the 1 is rounded away ..
-pub small_squares_alone : distance2_xyz zero_f zero_f zero_f (of_bits binary64 0x3e44_0000_0000_0000) (of_bits binary64 0x3ff0_0000_0000_0000) (of_bits binary64 0x3e44_0000_0000_0000) ≡ of_bits binary64 0x3ff0_0000_0000_0000
+pub small_squares_alone : distance2_xyz zero64 zero64 zero64 (of_bits binary64 0x3e44_0000_0000_0000) (of_bits binary64 0x3ff0_0000_0000_0000) (of_bits binary64 0x3e44_0000_0000_0000) ≡ of_bits binary64 0x3ff0_0000_0000_0000
 unfolding add sub mul round neg of_bits
 small_squares_alone = refl
 
 -- .. and with a, a, 1 their sum is not
-pub small_squares_first : distance2_xyz zero_f zero_f zero_f (of_bits binary64 0x3e44_0000_0000_0000) (of_bits binary64 0x3e44_0000_0000_0000) (of_bits binary64 0x3ff0_0000_0000_0000) ≡ of_bits binary64 0x3ff0_0000_0000_0001
+pub small_squares_first : distance2_xyz zero64 zero64 zero64 (of_bits binary64 0x3e44_0000_0000_0000) (of_bits binary64 0x3e44_0000_0000_0000) (of_bits binary64 0x3ff0_0000_0000_0000) ≡ of_bits binary64 0x3ff0_0000_0000_0001
 unfolding add sub mul round neg of_bits
 small_squares_first = refl

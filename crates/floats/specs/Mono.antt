@@ -1,13 +1,16 @@
 -- The operations keep the order, for values of any sign: sums and differences, products with a factor that is not negative, quotients by a value above zero. And the order is total. Assumes nothing.
-use Rattle.std.specs.Prelude.{◌≡◌, refl, ℕ, ◌+◌, ◌*◌, ◌^◌, ◌≤◌, ◌<◌, Bool, true, false, not, cond, T, Float}
+use Rattle.std.specs.Prelude.{◌≡◌, refl, ℕ, ◌+◌, ◌*◌, ◌^◌, ◌≤◌, ◌<◌, Bool, true, false, not, cond, T, pos, Float}
 use Rattle.std.proofs.Common.{sym, ap, ◌∙◌, subst, le_refl, add_comm, mul-pos, mul-le-mul, mul-le-mul_right, arith, nltb→le, pow_pos}
 use Rattle.std.specs.Float.{nan, inf, fin, Format}
 use Rattle.std.specs.Float.Ieee.{low, up, down, below, unlike, round, neg, add, sub, mul, div, le, lt, fits}
 use Rattle.std.specs.Float.Ieee.Scale.{finite}
-use Rattle.floats.specs.Exact.{zero_f}
 use Rattle.floats.specs.Value.{plus, less, Sle, sgn, mag, pv, nv, Held, le→sle, sle→le, sle→test}
 use Rattle.floats.specs.Bounds.{plus_le}
 use Rattle.floats.specs.Rounds.{Rounds, round_neg, neg_held, rounds_mono, rounds_ge, signed_mono, add_rounds, sub_rounds, mul_rounds, div_rounds, mul_is}
+
+-- 0.0, of any format
+abbrev pub zero_f : Float
+zero_f = fin false 0 (pos 0)
 
 sum_arith : (a b c d p q r s u : ℕ) → a + s ≤ c + q → b + r ≤ d + p → (a + b) * u + (s + r) * u ≤ (c + d) * u + (q + p) * u
 sum_arith a b c d p q r s u h k = omega (arith, mul-le-mul_right u h, mul-le-mul_right u k)

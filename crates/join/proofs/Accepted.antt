@@ -37,6 +37,55 @@ uses_rows v en ef e us n A h q k lt =
     let u = uses_in e us n k q g in
     rw (get_or-take n us k 0 g) (omega (arith, A.numbers), omega (arith, A.floats))
 
+-- ---- no cause
+pub causes_none : (en : List ℕ) (ef : List Float) (a b us ls : List ℕ) (v e n m k v0 v1 : ℕ) → join_cause en ef a b us ls v e n m k v0 v1 ≡ 0
+    → (edges_cause v en ef e ≡ 0) × (join_wires_cause e a n b m us ls k ≡ 0) × (empty_cause n m ≡ 0)
+unfolding join_cause
+causes_none en ef a b us ls v e n m k v0 v1 q =
+    let c₁ = lower_none (count_cause 4096 v) _ q in
+    let c₂ = lower_none (edges_cause v en ef e) _ c₁.1 in
+    let c₃ = lower_none (vertex_number_cause v v0) _ c₂.1 in
+    let c₄ = lower_none (vertex_number_cause v v1) _ c₃.1 in
+    let c₅ = lower_none (join_wires_cause e a n b m us ls k) (empty_cause n m) c₄.1 in
+    (c₂.0, c₅.0, c₅.1)
+
+-- wires without a cause: e edges, two open wires of n and m uses, and k new ones
+pub record WiresPassed (e : ℕ) (a : List ℕ) (n : ℕ) (b : List ℕ) (m : ℕ) (us ls : List ℕ) (k : ℕ) : Type 0 where
+  pub wires : k + 2 ≤ 64
+  pub lengths : k ≤ length ls
+  pub first : n ≤ length a
+  pub second : m ≤ length b
+  pub few : n + m + total (take k ls) ≤ 1024
+  pub uses : total (take k ls) ≤ length us
+  pub first_known : uses_cause e a n ≡ 0
+  pub second_known : uses_cause e b m ≡ 0
+  pub new_known : uses_cause e us (total (take k ls)) ≡ 0
+
+pub wires_passed : (e : ℕ) (a : List ℕ) (n : ℕ) (b : List ℕ) (m : ℕ) (us ls : List ℕ) (k : ℕ) → join_wires_cause e a n b m us ls k ≡ 0
+    → WiresPassed e a n b m us ls k
+unfolding join_wires_cause
+wires_passed e a n b m us ls k q =
+    let t = total (take k ls) in
+    let w₁ = passed (ltb 64 (k + 2)) _ q in
+    let w₂ = passed (ltb (length ls) k) _ w₁.1 in
+    let w₃ = passed (ltb (length a) n) _ w₂.1 in
+    let w₄ = passed (ltb (length b) m) _ w₃.1 in
+    let w₅ = passed (ltb 1024 (n + m + t)) _ w₄.1 in
+    let w₆ = passed (ltb (length us) t) _ w₅.1 in
+    let u₁ = lower_none (uses_cause e a n) _ w₆.1 in
+    let u₂ = lower_none (uses_cause e b m) (uses_cause e us t) u₁.1 in
+    record {
+      wires = ltb-false 64 (k + 2) w₁.0;
+      lengths = ltb-false (length ls) k w₂.0;
+      first = ltb-false (length a) n w₃.0;
+      second = ltb-false (length b) m w₄.0;
+      few = ltb-false 1024 (n + m + t) w₅.0;
+      uses = ltb-false (length us) t w₆.0;
+      first_known = u₁.0;
+      second_known = u₂.0;
+      new_known = u₂.1;
+    }
+
 module _ (edges : Table Edge) (first second : Stretch) (w : WiresMut) (v v0 v1 : ℕ) where
   abbrev en : List ℕ
   en = edges.numbers.now
@@ -76,30 +125,16 @@ module _ (edges : Table Edge) (first second : Stretch) (w : WiresMut) (v v0 v1 :
     pub joinable : Joinable edges (take n a) (take m b) w
 
   pub join_accepted : join_cause en ef a b us ls v e n m k v0 v1 ≡ 0 → JoinAccepted
-  unfolding join_cause join_wires_cause empty_cause
+  unfolding empty_cause
   join_accepted q =
       let t = total (take k ls) in
-      let c₁ = lower_none (count_cause 4096 v) _ q in
-      let c₂ = lower_none (edges_cause v en ef e) _ c₁.1 in
-      let c₃ = lower_none (vertex_number_cause v v0) _ c₂.1 in
-      let c₄ = lower_none (vertex_number_cause v v1) _ c₃.1 in
-      let c₅ = lower_none _ (empty_cause n m) c₄.1 in
-      let x = lower_none (when (eqb n 0) 15) (when (eqb m 0) 15) c₅.1 in
-      let w₁ = passed (ltb 64 (k + 2)) _ c₅.0 in
-      let w₂ = passed (ltb (length ls) k) _ w₁.1 in
-      let w₃ = passed (ltb (length a) n) _ w₂.1 in
-      let w₄ = passed (ltb (length b) m) _ w₃.1 in
-      let w₅ = passed (ltb 1024 (n + m + t)) _ w₄.1 in
-      let w₆ = passed (ltb (length us) t) _ w₅.1 in
-      let u₁ = lower_none (uses_cause e a n) _ w₆.1 in
-      let u₂ = lower_none (uses_cause e b m) (uses_cause e us t) u₁.1 in
-      let A = edges_accepted v en ef e c₂.0 in
-      let ha : n ≤ length a = ltb-false (length a) n w₃.0 in
-      let hb : m ≤ length b = ltb-false (length b) m w₄.0 in
-      let hu : t ≤ length us = ltb-false (length us) t w₆.0 in
-      let all : n + m + t ≤ 1024 = ltb-false 1024 (n + m + t) w₅.0 in
-      let la : length (take n a) ≡ n = length-take-le n a ha in
-      let lb : length (take m b) ≡ m = length-take-le m b hb in
+      let z = causes_none en ef a b us ls v e n m k v0 v1 q in
+      let x = lower_none (when (eqb n 0) 15) (when (eqb m 0) 15) z.2 in
+      let W = wires_passed e a n b m us ls k z.1 in
+      let A = edges_accepted v en ef e z.0 in
+      let all : n + m + t ≤ 1024 = W.few in
+      let la : length (take n a) ≡ n = length-take-le n a W.first in
+      let lb : length (take m b) ≡ m = length-take-le m b W.second in
       let na : n ≡ 0 → ⊥ = eqb-false n 0 (not_when (eqb n 0) 14 x.0) in
       let nb : m ≡ 0 → ⊥ = eqb-false m 0 (not_when (eqb m 0) 14 x.1) in
       record {
@@ -108,11 +143,11 @@ module _ (edges : Table Edge) (first second : Stretch) (w : WiresMut) (v v0 v1 :
         first_some = omega (arith, na);
         second_some = omega (arith, nb);
         joinable = record {
-          lies = record { wires = omega (arith, ltb-false 64 (k + 2) w₁.0); lengths = ltb-false (length ls) k w₂.0; few = omega arith; uses = hu };
+          lies = record { wires = omega (arith, W.wires); lengths = W.lengths; few = omega arith; uses = W.uses };
           few = omega arith;
-          first_rows = uses_rows v en ef e a n A ha u₁.0;
-          second_rows = uses_rows v en ef e b m A hb u₂.0;
-          rows = uses_rows v en ef e us t A hu u₂.1;
+          first_rows = uses_rows v en ef e a n A W.first W.first_known;
+          second_rows = uses_rows v en ef e b m A W.second W.second_known;
+          rows = uses_rows v en ef e us t A W.uses W.new_known;
         };
       }
 

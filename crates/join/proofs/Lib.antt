@@ -3,3 +3,4 @@ pub mod Connecting
 pub mod Causes
 pub mod Accepted
 pub mod Laws
+pub mod Reading

@@ -1,22 +1,17 @@
 -- Worked examples of the join. Assumes nothing.
 use Rattle.std.specs.Prelude.{◌≡◌, refl, [], ◌∷◌, ℕ, get_or}
-use Rattle.std.specs.Float.{binary64}
-use Rattle.std.specs.Float.Ieee.{of_bits}
-use Rattle.compress.specs.declared.Curve.TheVariants.{Span}
 use Rattle.compress.specs.declared.Edge.{Edge}
 use Rattle.compress.specs.Records.{front_of, front_at}
 use Rattle.compress.specs.Said.{result, none}
+use Rattle.compress.specs.Worked.{between, k9_edges}
 use Rattle.rows.specs.wires.Turn.{turned}
 use Rattle.join.specs.laying.Places.{index_of, wire_index_of, closed_by}
 use Rattle.join.specs.joined.Joined.{joined_at, joined_to}
 use Rattle.join.specs.Join.{connected_at, connected}
 
-abbrev pub between : ℕ → ℕ → Edge
-between a b = record { front = a; back = b; curve = Span 0 (of_bits binary64 0) (of_bits binary64 0) }
-
 -- K9's edges
 abbrev pub k9 : ℕ → Edge
-k9 i = get_or (between 0 2 ∷ between 0 1 ∷ between 1 0 ∷ between 2 3 ∷ between 3 2 ∷ []) i (between 0 0)
+k9 i = get_or k9_edges i (between 0 0)
 
 -- "K15: K9's edges; open 1+ 2+ and 3+ 4+; new wire 0+ 0-; v0 0, v1 2: result 0- 1+ 2+ 0+ 3+ 4+."
 pub k15 : connected k9 0 2 (2 ∷ 4 ∷ []) (6 ∷ 8 ∷ []) ((0 ∷ 1 ∷ []) ∷ []) ≡ result ((1 ∷ 2 ∷ 4 ∷ 0 ∷ 6 ∷ 8 ∷ []) ∷ [])

@@ -1,5 +1,6 @@
 -- Worked examples of the search. Assumes nothing.
 use Rattle.std.specs.Prelude.{◌≡◌, refl, List, [], ◌∷◌, ℕ, None}
+use Rattle.compress.specs.Worked.{k9_wire}
 use Rattle.rows.specs.wires.Turn.{turned}
 use Rattle.non_simple.specs.loops.Loop.{nothing, insert, pair, searched, first_repeat}
 
@@ -19,15 +20,12 @@ unfolding nothing insert searched first_repeat
 k8 = refl
 
 -- the wire of K9: 1+ 2+ 0+ 3+ 4+ 0-
-abbrev pub k9 : List ℕ
-k9 = 2 ∷ 4 ∷ 0 ∷ 6 ∷ 8 ∷ 1 ∷ []
-
-pub k9_first : first_repeat 0 k9 ≡ pair 2 5
+pub k9_first : first_repeat 0 k9_wire ≡ pair 2 5
 unfolding nothing insert searched first_repeat
 k9_first = refl
 
 -- turned so that the earlier place is 0, it has no second pair past the later place
-pub k9_second : first_repeat 4 (turned 2 k9) ≡ None
+pub k9_second : first_repeat 4 (turned 2 k9_wire) ≡ None
 unfolding nothing insert searched first_repeat turned
 k9_second = refl
 

@@ -15,7 +15,8 @@ use Rattle.compress.specs.declared.Edge.{Edge}
 use Rattle.compress.specs.Records.{pick, forward}
 use Rattle.compress.specs.Rows.{edge_at}
 use Rattle.compress.specs.Shell.{Shell, load}
-use Rattle.compress.proofs.Layouts.{length_rows, get_d_rows}
+use Rattle.compress.proofs.Layouts.{length_rows}
+use Rattle.compress.proofs.Loading.{edge_loaded}
 use Rattle.rows.specs.wires.Connected.{replaced}
 use Rattle.cutting.specs.cut_edge.Cut.{halves_of}
 use Rattle.cutting.specs.Keeps.{edge_in, wire_in, UsesKnown, Keeps}
@@ -132,10 +133,7 @@ module _ (d : Edge) (vn : List ℕ) (vf : List Float) (en : List ℕ) (ef : List
   below = rw (length_rows (edge_at en ef) 0 e) lies
 
   read : edge_at en ef i ≡ get_or lent.edges i d
-  unfolding load
-  read =
-      let p : 0 + i ≡ i = omega arith in
-      sym (get_d_rows d (edge_at en ef) 0 e i lies ∙ rw p)
+  read = edge_loaded (lent_of vn vf en ef us ls v e w) d i lies
 
   pub call_keeps : (c : Cut) → Keeps d lent (cut_once lent i (edge_at en ef i) c)
   call_keeps c = cut_keeps d lent i (edge_at en ef i) c below read (lent_known vn vf en ef us ls v e w (call_checked vn vf en ef us ls v e w i cs m 0 (sym z) refl).0)

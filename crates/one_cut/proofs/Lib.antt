@@ -1,3 +1,4 @@
 -- The laws of one cut.
 pub mod Outcome
 pub mod Laws
+pub mod Reading

@@ -16,16 +16,17 @@ use Rattle.compress.specs.declared.Refusal.TheVariants as refusal
 use Rattle.compress.specs.Said.{result, refused}
 use Rattle.compress.specs.Layout.{store, put, store_from, rows}
 use Rattle.compress.specs.Shell.{Shell, Lent, load, counts_of, vertices_fit, edges_fit}
+use Rattle.compress.proofs.Refused.{cause_met}
 use Rattle.checks.specs.Causes.{wires_cause, edge_number_cause, lower_of, when}
 use Rattle.cutting.specs.declared.mending.NoRoom.{NoRoom}
 use Rattle.cutting.specs.mending.Steps.{AreNumbers, InPlace, count_told}
-use Rattle.cutting.proofs.Outcome.{result_full, result_done, Accepted, accepted, vertices_stand, way_cause}
+use Rattle.cutting.proofs.Outcome.{result_full, result_done, Accepted, accepted, vertices_stand}
 use Rattle.compress.specs.declared.Curve.{Curve}
 use Rattle.compress.specs.declared.Edge.{Edge}
 use Rattle.compress.specs.Points.{given}
 use Rattle.compress.specs.Records.{pick, first_of, last_of}
 use Rattle.compress.specs.Refusals.{refusal_number}
-use Rattle.compress.specs.Rows.{curve_of, edge_of, edge_at, vertex_at, edge_number_layout, edge_float_layout, vertex_number_layout, vertex_float_layout}
+use Rattle.compress.specs.Rows.{t0_place, t1_place, numbers_per_edge, floats_per_edge, numbers_per_vertex, floats_per_vertex, edge_kind_at, curve_of, edge_of, edge_at, vertex_at, edge_number_layout, edge_float_layout, vertex_number_layout, vertex_float_layout}
 use Rattle.compress.specs.Wires.{total, wires_of}
 use Rattle.compress.proofs.Cells.{all_alike}
 use Rattle.compress.proofs.Wires.{uses_lent}
@@ -38,9 +39,9 @@ use Rattle.checks.proofs.Accepted.{passed, not_when}
 use Rattle.checks.proofs.Lowest.{lower_none}
 use Rattle.cutting.specs.cut_edge.Cut.{halves_of}
 use Rattle.cutting.specs.mending.Replace.{replace_wires}
-use Rattle.cutting.specs.Contract.{lent_of, leaves, input_cause}
+use Rattle.cutting.specs.Contract.{turned_away, lent_of, leaves, input_cause}
 use Rattle.one_cut.specs.declared.cuts.Cut.{Cut}
-use Rattle.one_cut.specs.cuts.Cuts.{cut_at, cuts_cause}
+use Rattle.one_cut.specs.cuts.Cuts.{floats_per_cut, cut_at, cuts_cause}
 use Rattle.one_cut.specs.Cut.{added_at, cut_once}
 use Rattle.one_cut.specs.Steps.{asks}
 use Rattle.one_cut.specs.Contract.{one_cut_cause, once_outcome, cut_by, cut_outcome}
@@ -54,17 +55,17 @@ by_last : (b : Bool) (c d : Curve) → last_of c ≡ last_of d → last_of (pick
 by_last true c d p = p
 by_last false c d p = refl
 
-pub first_at : (en : List ℕ) (ef : List Float) (i : ℕ) → first_of (edge_at en ef i).curve ≡ get_or ef (i * 6 + 4) nan
+pub first_at : (en : List ℕ) (ef : List Float) (i : ℕ) → first_of (edge_at en ef i).curve ≡ get_or ef (i * floats_per_edge + t0_place) nan
 unfolding edge_of curve_of
-first_at en ef i = by_first (eqb (get_or en (i * 4 + 2) 0) 0) _ _ refl
+first_at en ef i = by_first (eqb (edge_kind_at en i) 0) _ _ refl
 
-pub last_at : (en : List ℕ) (ef : List Float) (i : ℕ) → last_of (edge_at en ef i).curve ≡ get_or ef (i * 6 + 5) nan
+pub last_at : (en : List ℕ) (ef : List Float) (i : ℕ) → last_of (edge_at en ef i).curve ≡ get_or ef (i * floats_per_edge + t1_place) nan
 unfolding edge_of curve_of
-last_at en ef i = by_last (eqb (get_or en (i * 4 + 2) 0) 0) _ _ refl
+last_at en ef i = by_last (eqb (edge_kind_at en i) 0) _ _ refl
 
 -- the cause of a call, from what its steps gave: t0 and t1 bound the edge's curve
 pub cause_found : (l : Lent) (i : ℕ) (cs : List Float) (n : ℕ) {t0 t1 : Float} {s e c d r : ℕ}
-    → t0 ≡ get_or l.slices.ef (i * 6 + 4) nan → t1 ≡ get_or l.slices.ef (i * 6 + 5) nan
+    → t0 ≡ get_or l.slices.ef (i * floats_per_edge + t0_place) nan → t1 ≡ get_or l.slices.ef (i * floats_per_edge + t1_place) nan
     → s ≡ input_cause l → e ≡ edge_number_cause l.edges i → c ≡ cuts_cause t0 t1 cs n → d ≡ lower_of e c → r ≡ lower_of s d
     → r ≡ one_cut_cause l i cs n
 unfolding one_cut_cause
@@ -140,7 +141,7 @@ module _ (vn : List ℕ) (vf : List Float) (en : List ℕ) (ef : List Float) (us
     outcome_full x q = result_full vn vf en ef us ls v e w after 1 vertices_are edges_are room has us' ls' m mended (rw q)
 
     -- room: a row for the new vertex, and one for the new edge
-    pub places : (n : ℕ) → m ≡ Ok n → ((v < 4096) × (v * 3 + 3 ≤ length vn) × (v * 7 + 7 ≤ length vf)) × ((e * 4 + 4 ≤ length en) × (e * 6 + 6 ≤ length ef))
+    pub places : (n : ℕ) → m ≡ Ok n → ((v < 4096) × (v * numbers_per_vertex + numbers_per_vertex ≤ length vn) × (v * floats_per_vertex + floats_per_vertex ≤ length vf)) × ((e * numbers_per_edge + numbers_per_edge ≤ length en) × (e * floats_per_edge + floats_per_edge ≤ length ef))
     places n q =
         let t : is_ok m ≡ true = rw q in
         let f = and_parts (vertices_fit vn vf (v + 1)) (edges_fit en ef (e + 1)) (sym (has 1) ∙ (and_parts (leb 1 room) _ (sym M.fits ∙ t)).0) in
@@ -197,17 +198,17 @@ module _ (vn : List ℕ) (vf : List Float) (en : List ℕ) (ef : List Float) (us
   pub call_cause : (r : Refusal) → refusal_number r ≡ one_cut_cause (lent_of vn vf en ef us ls v e w) i cs n
       → record { said = refused (refusal_number r); slices = (lent_of vn vf en ef us ls v e w).slices } ≡ cut_outcome (lent_of vn vf en ef us ls v e w) i cs n
   unfolding cut_outcome
-  call_cause r q = way_cause r _ _ _ q
+  call_cause r q = cause_met r _ (turned_away _) _ q
 
   pub call_checked : (k : ℕ) → k ≡ one_cut_cause (lent_of vn vf en ef us ls v e w) i cs n → k ≡ 0
-      → (input_cause (lent_of vn vf en ef us ls v e w) ≡ 0) × (i < e) × (n * 4 ≤ length cs)
+      → (input_cause (lent_of vn vf en ef us ls v e w) ≡ 0) × (i < e) × (n * floats_per_cut ≤ length cs)
   unfolding one_cut_cause cuts_cause
   call_checked k q z =
       let t0 = first_of (edge_at en ef i).curve in
       let t1 = last_of (edge_at en ef i).curve in
       let a = lower_none (input_cause (lent_of vn vf en ef us ls v e w)) _ (sym q ∙ z) in
       let b = lower_none (when (leb e i) 3) (cuts_cause t0 t1 cs n) a.1 in
-      (a.0, leb-false e i (not_when (leb e i) 2 b.0), ltb-false (length cs) (n * 4) (passed (ltb (length cs) (n * 4)) _ b.1).0)
+      (a.0, leb-false e i (not_when (leb e i) 2 b.0), ltb-false (length cs) (n * floats_per_cut) (passed (ltb (length cs) (n * floats_per_cut)) _ b.1).0)
 
   -- where nothing is cut, the counts are those of the shell
   pub call_left : input_cause (lent_of vn vf en ef us ls v e w) ≡ 0 → (t : ℕ) → t ≡ total (take w ls)

@@ -4,10 +4,10 @@ use Rattle.compress.specs.declared.Curve.{Curve}
 use Rattle.compress.specs.Layout.{rows}
 use Rattle.compress.specs.Records.{first_of, last_of}
 use Rattle.compress.specs.Rows.{edge_at}
-use Rattle.compress.specs.Said.{result, refused}
+use Rattle.compress.specs.Said.{result, cause_or}
 use Rattle.compress.specs.Shell.{Lent, load, counts_of}
 use Rattle.checks.specs.Causes.{lower_of, edge_number_cause}
-use Rattle.cutting.specs.Contract.{Outcome, input_cause, result_of, cause_or}
+use Rattle.cutting.specs.Contract.{Outcome, input_cause, turned_away, result_of}
 use Rattle.one_cut.specs.declared.cuts.Cut.{Cut}
 use Rattle.one_cut.specs.cuts.Cuts.{cut_at, cuts_cause}
 use Rattle.one_cut.specs.Cut.{cut_once}
@@ -32,7 +32,7 @@ once_outcome l i c = result_of l.slices (cut_once (load l) i (edge_at l.slices.e
 abbrev pub cut_by : List Cut → Lent → ℕ → Outcome
 cut_by [] l i = record { said = result (counts_of (load l)); slices = l.slices }
 cut_by (c ∷ []) l i = once_outcome l i c
-cut_by (c ∷ d ∷ cs) l i = record { said = refused 14; slices = l.slices }
+cut_by (c ∷ d ∷ cs) l i = turned_away l.slices 14
 
 unfoldable pub cut_outcome : Lent → ℕ → List Float → ℕ → Outcome
-cut_outcome l i cs n = cause_or (one_cut_cause l i cs n) l.slices (cut_by (rows (cut_at cs) 0 n) l i)
+cut_outcome l i cs n = cause_or (one_cut_cause l i cs n) (turned_away l.slices) (cut_by (rows (cut_at cs) 0 n) l i)

@@ -1,22 +1,12 @@
 -- Worked examples of one cut. Assumes nothing.
 use Rattle.std.specs.Prelude.{◌≡◌, refl, [], ◌∷◌, ℕ, Float}
-use Rattle.std.specs.Float.{binary64}
-use Rattle.std.specs.Float.Ieee.{of_bits}
+use Rattle.compress.specs.Constants.{zero64, one64, two64}
 use Rattle.compress.specs.declared.Curve.TheVariants.{Span}
 use Rattle.compress.specs.declared.Edge.{Edge}
 use Rattle.compress.specs.declared.Vertex.TheVariants.{Given}
 use Rattle.cutting.specs.cut_edge.Cut.{halves_of}
 use Rattle.cutting.specs.mending.Replace.{replace_use, replace_edges, replace_wires}
 use Rattle.one_cut.specs.Cut.{added_at, cut_once}
-
-abbrev pub zero64 : Float
-zero64 = of_bits binary64 0
-
-abbrev pub one64 : Float
-one64 = of_bits binary64 0x3ff0_0000_0000_0000
-
-abbrev pub two64 : Float
-two64 = of_bits binary64 0x4000_0000_0000_0000
 
 abbrev pub span_of : ℕ → ℕ → Float → Float → Edge
 span_of a b t0 t1 = record { front = a; back = b; curve = Span 7 t0 t1 }

@@ -4,12 +4,15 @@ ghost use Rattle.std.specs.Prelude.{◌≡◌, ◌+◌, ◌*◌, ◌≤◌, ◌<
 ghost use Rattle.compress.specs.Points.{given};
 ghost use Rattle.compress.specs.Refusals.{cause_of};
 ghost use Rattle.compress.specs.Layout.{put};
-ghost use Rattle.compress.specs.Rows.{HasRow, edge_number_layout, edge_float_layout, vertex_number_layout, vertex_float_layout};
+ghost use Rattle.compress.specs.Rows.{HasEdge, HasVertex, edge_number_layout, edge_float_layout, vertex_number_layout, vertex_float_layout};
 ghost use Rattle.rows.specs.Places.{SameTable};
-ghost use Rattle.one_cut.specs.cuts.Cuts.{cut_at, cut_cause, cuts_cause, halves_at};
+ghost use Rattle.one_cut.specs.cuts.Cuts.{floats_per_cut, cut_at, cut_cause, cuts_cause, halves_at};
 
 use compress::{Checked, Edge, Refusal, Vertex, Xyz};
 use rows::tables::TableMut;
+
+// How many floats a cut has: the parameter, x, y, z.
+const FLOATS_PER_CUT: usize = 4;
 
 // A cut: the parameter on the edge's curve, and the point there.
 #[derive(Clone, Copy)]
@@ -36,12 +39,12 @@ fn cut_cause(t0: f64, t1: f64, c: Cut) -> Checked
 }
 
 impl EdgeCuts<'_> {
-    // The cut of row i: parameter, x, y, z.
+    // The cut of row i.
     pub fn at(&self, i: usize) -> Cut
-        requires { i * 4 + 4 ≤ length self.now.floats.now }
+        requires { i * floats_per_cut + floats_per_cut ≤ length self.now.floats.now }
         ensures { result ≡ cut_at self.now.floats.now i }
     {
-        let a = i * 4;
+        let a = i * FLOATS_PER_CUT;
         Cut {
             t: self.floats[a],
             point: Xyz::read(self.floats, a + 1),
@@ -52,7 +55,7 @@ impl EdgeCuts<'_> {
     pub fn cause(&self, t0: f64, t1: f64) -> Checked
         ensures { cause_of result ≡ cuts_cause t0 t1 self.now.floats.now self.now.count }
     {
-        if self.count > self.floats.len() / 4 {
+        if self.count > self.floats.len() / FLOATS_PER_CUT {
             return Err(Refusal::Malformed);
         }
         checks::lowest_cause(self.count, |i| cut_cause(t0, t1, self.at(i)))
@@ -66,9 +69,9 @@ impl EdgeCuts<'_> {
 // again.
 pub(crate) fn put_cut(vertices: &mut TableMut<Vertex>, edges: &mut TableMut<Edge>, i: usize, c: Cut)
     requires vertex_row { let v = vertices.old in
-        (v.count < 4096) × HasRow 3 7 v.numbers.now v.floats.now v.count }
+        (v.count < 4096) × HasVertex v.numbers.now v.floats.now v.count }
     requires edge_row { let e = edges.old in
-        (i < e.count) × HasRow 4 6 e.numbers.now e.floats.now e.count }
+        (i < e.count) × HasEdge e.numbers.now e.floats.now e.count }
     ensures vertex_numbers_after { let v = vertices.old in
         vertices.new.numbers.now ≡ put vertex_number_layout v.numbers.now v.count (given c.point) }
     ensures vertex_floats_after { let v = vertices.old in

@@ -19,7 +19,7 @@ ghost use Rattle.one_cut.specs.Contract.{one_cut_cause, once_outcome, cut_outcom
 ghost use Rattle.one_cut.specs.Steps.{asks};
 
 use crate::cuts::{Cut, EdgeCuts};
-use compress::{Checked, Counts, Edge, Refusal, Vertex};
+use compress::{Checked, Counts, Edge, FLOATS_PER_EDGE, Refusal, T0, T1, Vertex};
 use cutting::mending::NoRoom;
 use rows::lent::WiresMut;
 use rows::tables::TableMut;
@@ -43,9 +43,9 @@ fn one_cut_cause(
 ) -> Checked
     ensures { cause_of result ≡ one_cut_cause (lent vertices.now edges.now wires.now) cuts.now.edge cuts.now.floats.now cuts.now.count }
 {
-    let b = cuts.edge as usize * 6;
-    let t0 = float_at(edges.floats, b + 4);
-    let t1 = float_at(edges.floats, b + 5);
+    let b = cuts.edge as usize * FLOATS_PER_EDGE;
+    let t0 = float_at(edges.floats, b + T0);
+    let t1 = float_at(edges.floats, b + T1);
     let shell = cutting::input_cause(&vertices.view(), &edges.view(), &wires.view());
     let number = checks::edge_number(edges.count, cuts.edge);
     let c = cuts.cause(t0, t1);

@@ -9,7 +9,7 @@ use Prim.Native.Nat.{ℕ}
 use lib.Dec.{T, lit<, lit≤}
 use lib.Ieee.{Float, binary64, add, sub, mul, neg, lt, le, fits, of_bits}
 use Rattle.std.specs.Prelude.{Option, Some, None}
-use Rattle.floats.specs.Exact.{two}
+use Rattle.compress.specs.Constants.{zero64, one64, two64}
 use Rattle.floats.specs.Value.{Held}
 use Rattle.floats.specs.Rounds.{neg_held}
 use Rattle.floats.specs.Bounds.{Under, weaken, add_under, sub_under, mul_under}
@@ -18,8 +18,7 @@ use Rattle.floats.proofs.Sized.{Sized, sized_under}
 use Rattle.floats.proofs.Distance.{distance2_uv_under}
 use Rattle.compress.specs.declared.Uv.{Uv}
 use Rattle.compress.specs.Records.{pick}
-use Rattle.compress.specs.Choice.{zero64}
-use Rattle.periodic.specs.Unwrap.{one, candidates_of, away_from, nearest_of, unwrapped}
+use Rattle.periodic.specs.Unwrap.{candidates_of, away_from, nearest_of, unwrapped}
 use Rattle.periodic.specs.Copies.{first_shift, later_shifts, shifts_of, shifted, copies_along, copies_over, from, nearest_copy_of}
 use Rattle.compress.proofs.Choices.{smallest_member}
 use Rattle.periodic.proofs.Choices.{smallest_least}
@@ -30,19 +29,19 @@ unfolding unwrapped nearest_of
 unwrapped_member u u0 p = smallest_member (away_from u0) _ _
 
 -- ---- and none of them is nearer to u0: every difference is finite
-two_under : Under binary64 1075 two
+two_under : Under binary64 1075 two64
 unfolding of_bits fits
 two_under = record { held = record { fit = tt; bounded = tt }; small = lit≤ tt }
 
-minus_two_under : Under binary64 1075 (neg two)
+minus_two_under : Under binary64 1075 (neg two64)
 unfolding of_bits neg fits
 minus_two_under = record { held = record { fit = tt; bounded = tt }; small = lit≤ tt }
 
-one_under : Under binary64 1075 one
+one_under : Under binary64 1075 one64
 unfolding of_bits fits
 one_under = record { held = record { fit = tt; bounded = tt }; small = lit≤ tt }
 
-minus_one_under : Under binary64 1075 (neg one)
+minus_one_under : Under binary64 1075 (neg one64)
 unfolding of_bits neg fits
 minus_one_under = record { held = record { fit = tt; bounded = tt }; small = lit≤ tt }
 
@@ -66,11 +65,11 @@ candidates_held : (u u0 p : Float) → Sized u → Sized u0 → Sized p → (x :
 candidates_held u u0 p hu h0 hp x m =
     let at : (i : Float) → Under binary64 1075 i → x ≡ add binary64 u (mul binary64 i p) → Held binary64 (away_from u0 x)
     = λ i hi e. rw e (away_held u u0 p i hu h0 hp hi) in
-    ⊎_elim (at (neg two) minus_two_under)
-    (λ m. ⊎_elim (at (neg one) minus_one_under)
+    ⊎_elim (at (neg two64) minus_two_under)
+    (λ m. ⊎_elim (at (neg one64) minus_one_under)
     (λ m. ⊎_elim (at zero64 zero_under)
-    (λ m. ⊎_elim (at one one_under)
-    (λ m. ⊎_elim (at two two_under) (λ m. absurd (Memᴰ.not-nil m)) (Memᴰ.cases_cons m))
+    (λ m. ⊎_elim (at one64 one_under)
+    (λ m. ⊎_elim (at two64 two_under) (λ m. absurd (Memᴰ.not-nil m)) (Memᴰ.cases_cons m))
     (Memᴰ.cases_cons m))
     (Memᴰ.cases_cons m))
     (Memᴰ.cases_cons m))

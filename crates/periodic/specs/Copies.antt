@@ -2,21 +2,22 @@
 use Rattle.std.specs.Prelude.{List, [], ◌∷◌, ◌++◌, ℕ, Option, Some, None, Float}
 use Rattle.std.specs.Float.{binary64}
 use Rattle.std.specs.Float.Ieee.{add, mul, neg}
-use Rattle.floats.specs.Exact.{two, distance2_uv}
+use Rattle.compress.specs.Constants.{zero64, two64}
+use Rattle.floats.specs.Exact.{distance2_uv}
 use Rattle.compress.specs.declared.Uv.{Uv}
 use Rattle.compress.specs.Said.{Said, result, refused_or}
 use Rattle.checks.specs.Causes.{lower_of, uv_cause}
-use Rattle.compress.specs.Choice.{zero64, smallest}
+use Rattle.compress.specs.Choice.{smallest}
 use Rattle.periodic.specs.Unwrap.{period_cause_of}
 
 -- "Shifts are -2, -1, 0, 1, 2 periods, ..; an absent period has the shift 0 only."
 abbrev pub first_shift : Option Float → Float
 first_shift None = zero64
-first_shift (Some p) = mul binary64 (neg two) p
+first_shift (Some p) = mul binary64 (neg two64) p
 
 abbrev pub later_shifts : Option Float → List Float
 later_shifts None = []
-later_shifts (Some p) = neg p ∷ zero64 ∷ p ∷ mul binary64 two p ∷ []
+later_shifts (Some p) = neg p ∷ zero64 ∷ p ∷ mul binary64 two64 p ∷ []
 
 abbrev pub shifts_of : Option Float → List Float
 shifts_of period = first_shift period ∷ later_shifts period

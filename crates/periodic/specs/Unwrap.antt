@@ -2,23 +2,20 @@
 use Rattle.std.specs.Prelude.{List, [], ◌∷◌, ℕ, Option, Some, None, Float}
 use Rattle.std.specs.Float.{binary64}
 use Rattle.std.specs.Float.Ieee.{add, sub, mul, neg, lt, of_bits}
-use Rattle.floats.specs.Exact.{two}
+use Rattle.compress.specs.Constants.{zero64, one64, two64}
 use Rattle.compress.specs.Records.{pick}
 use Rattle.compress.specs.Said.{Said, result, refused_or}
 use Rattle.checks.specs.Causes.{lower_of, float_cause, period_cause}
-use Rattle.compress.specs.Choice.{zero64, smallest}
-
-abbrev pub one : Float
-one = of_bits binary64 0x3ff0_0000_0000_0000
+use Rattle.compress.specs.Choice.{smallest}
 
 -- "u + i × period for i from -2 to 2, five candidates by value"
 abbrev pub candidates_of : Float → Float → List Float
 candidates_of u p =
-    add binary64 u (mul binary64 (neg two) p)
-    ∷ add binary64 u (mul binary64 (neg one) p)
+    add binary64 u (mul binary64 (neg two64) p)
+    ∷ add binary64 u (mul binary64 (neg one64) p)
     ∷ add binary64 u (mul binary64 zero64 p)
-    ∷ add binary64 u (mul binary64 one p)
-    ∷ add binary64 u (mul binary64 two p)
+    ∷ add binary64 u (mul binary64 one64 p)
+    ∷ add binary64 u (mul binary64 two64 p)
     ∷ []
 
 -- the size of the rounded difference from u0

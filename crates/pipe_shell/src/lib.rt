@@ -7,7 +7,10 @@ pub mod writing;
 
 ghost use Rattle.std.specs.Prelude.{◌≡◌, drop, get_or, replicate};
 
-use compress::{Curve, Edge, Refusal, Uv, Vertex};
+use compress::{
+    Curve, Edge, FLOATS_PER_EDGE, FLOATS_PER_VERTEX, NUMBERS_PER_EDGE, NUMBERS_PER_VERTEX, Refusal,
+    Uv, Vertex,
+};
 use rows::lent;
 use rows::tables::{Row, Table, TableMut};
 use std::io;
@@ -28,6 +31,20 @@ pub struct Owned<R, const N: usize, const F: usize> {
     pub count: usize,
     pub of: PhantomData<R>,
 }
+
+// The vertices of the cut rims, and the halves of the rims with two seams: so many rows are lent. The sizes of the arrays are numbers of their own, as a
+// type's argument is not worked out; that they are those of so many rows is proved here.
+pub const VERTICES: usize = 4;
+
+pub const EDGES: usize = 6;
+
+const _: () = prove!(12 == VERTICES * NUMBERS_PER_VERTEX);
+
+const _: () = prove!(28 == VERTICES * FLOATS_PER_VERTEX);
+
+const _: () = prove!(24 == EDGES * NUMBERS_PER_EDGE);
+
+const _: () = prove!(36 == EDGES * FLOATS_PER_EDGE);
 
 // The vertices, with room for those of the cut rims.
 pub type Vertices = Owned<Vertex, 12, 28>;
@@ -179,9 +196,9 @@ fn point_of(v: usize) -> Vertex {
 pub fn given(count: usize) -> Vertices
     ensures { result.count ≡ count }
 {
-    let mut vertices = Vertices::zeros(4);
+    let mut vertices = Vertices::zeros(VERTICES);
     let mut table = vertices.table_mut();
-    for v in 0..4 {
+    for v in 0..VERTICES {
         table.put(v, point_of(v));
     }
     vertices.count = count;

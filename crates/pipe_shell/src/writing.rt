@@ -1,5 +1,5 @@
 // What is written of a shell, and of the step at which the way ends.
-use crate::{Edges, Shell, Stop, Wires, notation};
+use crate::{EDGES, Edges, Shell, Stop, Wires, notation};
 use compress::Edge;
 use std::io;
 
@@ -23,11 +23,11 @@ fn write_edge(rt: &impl Print, e: usize, edge: Edge) -> io::Result<()> {
     print!(rt; " {e} = ({front}, {back})")
 }
 
-// The edges from a number on. Of at most six rows, as many as there are cells for.
+// The edges from a number on, of those for which there are cells.
 fn write_edges(rt: &impl Print, edges: &Edges, from: usize) -> io::Result<()> {
     print!(rt; "   edges")?;
     let table = edges.table();
-    for e in from..edges.count.min(6) {
+    for e in from..edges.count.min(EDGES) {
         write_edge(rt, e, table.at(e))?;
     }
     println!(rt; "")

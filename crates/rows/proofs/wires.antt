@@ -3,3 +3,4 @@ pub mod Turns
 pub mod Replaced
 pub mod Copying
 mod Places
+pub mod Indexed

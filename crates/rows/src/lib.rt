@@ -10,9 +10,12 @@ ghost use Rattle.std.proofs.lemmas.List.Edits.{sets};
 ghost use Rattle.compress.specs.Records.{kind_of, number_of};
 ghost use Rattle.compress.specs.Layout.{put};
 ghost use Rattle.compress.specs.Shell.{uses_fit};
-ghost use Rattle.compress.specs.Rows.{HasRow, curve_first, curve_cells, edge_number_layout, edge_float_layout, vertex_number_layout, vertex_float_layout};
+ghost use Rattle.compress.specs.Rows.{floats_per_edge, HasVertex, HasEdge, numbers_per_vertex, floats_per_vertex, curve_first, curve_cells, edge_number_layout, edge_float_layout, vertex_number_layout, vertex_float_layout};
 
-use compress::{Curve, Edge, Vertex};
+use compress::{
+    CURVE_KIND, Curve, EDGE_CURVE, EDGE_KIND, Edge, FLOATS_PER_EDGE, FLOATS_PER_VERTEX,
+    NUMBERS_PER_EDGE, NUMBERS_PER_VERTEX, PARAMETER, T0, T1, VERTEX_CURVE, Vertex,
+};
 
 // ---- records
 
@@ -38,62 +41,62 @@ fn number_of(c: Curve) -> u32
 
 // The floats of a curve, in a row of floats that begins at cell j.
 fn put_curve(floats: &mut [f64], j: usize, c: Curve)
-    requires { j + 6 ≤ length floats.old }
+    requires { j + floats_per_edge ≤ length floats.old }
     ensures { floats.new ≡ sets floats.old (j + curve_first c) (curve_cells c) }
 {
     match c {
         Curve::Span { t0, t1, .. } => {
-            floats[j + 4] = t0;
-            floats[j + 5] = t1;
+            floats[j + T0] = t0;
+            floats[j + T1] = t1;
         }
         Curve::Seam { p, q, t0, t1, .. } => {
             floats[j] = p.u;
             floats[j + 1] = p.v;
             floats[j + 2] = q.u;
             floats[j + 3] = q.v;
-            floats[j + 4] = t0;
-            floats[j + 5] = t1;
+            floats[j + T0] = t0;
+            floats[j + T1] = t1;
         }
     }
 }
 
 // The edge e is written to row i. Beside the trait `tables::Row`, as `put_vertex` is: its answers lie by its name, and in the impl would be no fewer.
 fn put_edge(numbers: &mut [u32], floats: &mut [f64], i: usize, e: Edge)
-    requires { HasRow 4 6 numbers.old floats.old i }
+    requires { HasEdge numbers.old floats.old i }
     ensures numbers_after { numbers.new ≡ put edge_number_layout numbers.old i e }
     ensures floats_after { floats.new ≡ put edge_float_layout floats.old i e }
 {
-    let a = i * 4;
+    let a = i * NUMBERS_PER_EDGE;
     let curve = e.curve;
     numbers[a] = e.front;
     numbers[a + 1] = e.back;
-    numbers[a + 2] = kind_of(curve);
-    numbers[a + 3] = number_of(curve);
-    put_curve(floats, i * 6, curve);
+    numbers[a + EDGE_KIND] = kind_of(curve);
+    numbers[a + EDGE_CURVE] = number_of(curve);
+    put_curve(floats, i * FLOATS_PER_EDGE, curve);
 }
 
 fn put_vertex_numbers(numbers: &mut [u32], i: usize, v: Vertex)
-    requires { i * 3 + 3 ≤ length numbers.old }
+    requires { i * numbers_per_vertex + numbers_per_vertex ≤ length numbers.old }
     ensures { numbers.new ≡ put vertex_number_layout numbers.old i v }
 {
-    let a = i * 3;
+    let a = i * NUMBERS_PER_VERTEX;
     match v {
         Vertex::Given { .. } => {
             numbers[a] = 0;
         }
         Vertex::Pending { curve, .. } => {
             numbers[a] = 1;
-            numbers[a + 1] = kind_of(curve);
-            numbers[a + 2] = number_of(curve);
+            numbers[a + CURVE_KIND] = kind_of(curve);
+            numbers[a + VERTEX_CURVE] = number_of(curve);
         }
     }
 }
 
 fn put_vertex_floats(floats: &mut [f64], i: usize, v: Vertex)
-    requires { i * 7 + 7 ≤ length floats.old }
+    requires { i * floats_per_vertex + floats_per_vertex ≤ length floats.old }
     ensures { floats.new ≡ put vertex_float_layout floats.old i v }
 {
-    let b = i * 7;
+    let b = i * FLOATS_PER_VERTEX;
     match v {
         Vertex::Given { x, y, z } => {
             floats[b] = x;
@@ -102,14 +105,14 @@ fn put_vertex_floats(floats: &mut [f64], i: usize, v: Vertex)
         }
         Vertex::Pending { curve, t } => {
             put_curve(floats, b, curve);
-            floats[b + 6] = t;
+            floats[b + PARAMETER] = t;
         }
     }
 }
 
 // The vertex v is written to row i.
 fn put_vertex(numbers: &mut [u32], floats: &mut [f64], i: usize, v: Vertex)
-    requires { HasRow 3 7 numbers.old floats.old i }
+    requires { HasVertex numbers.old floats.old i }
     ensures numbers_after { numbers.new ≡ put vertex_number_layout numbers.old i v }
     ensures floats_after { floats.new ≡ put vertex_float_layout floats.old i v }
 {

@@ -2,12 +2,14 @@
 ghost use Rattle.std.specs.Prelude.{◌≡◌, true, ℕ, List, Float, ◌+◌, ◌*◌, ◌/◌, ◌≤◌, ◌<◌, leb, length};
 ghost use Rattle.compress.specs.Layout.{Layout, put};
 ghost use Rattle.compress.specs.Records.{front_at};
-ghost use Rattle.compress.specs.Rows.{HasRow, edge_at, edge_number_layout, edge_float_layout, vertex_at, vertex_number_layout, vertex_float_layout};
+ghost use Rattle.compress.specs.Rows.{numbers_per_edge, floats_per_edge, numbers_per_vertex, floats_per_vertex, HasEdge, HasRow, edge_at, edge_number_layout, edge_float_layout, vertex_at, vertex_number_layout, vertex_float_layout};
 ghost use Rattle.compress.specs.Shell.{rows_fit};
 ghost use Rattle.rows.specs.Places.{SameTable};
 ghost use Rattle.std.proofs.Common.{rules};
 
-use compress::{Edge, Vertex};
+use compress::{
+    Edge, FLOATS_PER_EDGE, FLOATS_PER_VERTEX, NUMBERS_PER_EDGE, NUMBERS_PER_VERTEX, Vertex,
+};
 use std::marker::PhantomData;
 
 // A record that has a row of numbers and a row of floats.
@@ -46,9 +48,9 @@ pub trait Row: Copy {
 }
 
 impl Row for Edge {
-    ghost NUMBERS = { 4 };
+    ghost NUMBERS = { numbers_per_edge };
 
-    ghost FLOATS = { 6 };
+    ghost FLOATS = { floats_per_edge };
 
     ghost row_at = { edge_at };
 
@@ -56,9 +58,9 @@ impl Row for Edge {
 
     ghost float_layout = { edge_float_layout };
 
-    const NUMBERS: usize = 4;
+    const NUMBERS: usize = NUMBERS_PER_EDGE;
 
-    const FLOATS: usize = 6;
+    const FLOATS: usize = FLOATS_PER_EDGE;
 
     fn read(numbers: &[u32], floats: &[f64], i: usize) -> Edge {
         compress::edge_at(numbers, floats, i)
@@ -74,9 +76,9 @@ impl Row for Edge {
 }
 
 impl Row for Vertex {
-    ghost NUMBERS = { 3 };
+    ghost NUMBERS = { numbers_per_vertex };
 
-    ghost FLOATS = { 7 };
+    ghost FLOATS = { floats_per_vertex };
 
     ghost row_at = { vertex_at };
 
@@ -84,9 +86,9 @@ impl Row for Vertex {
 
     ghost float_layout = { vertex_float_layout };
 
-    const NUMBERS: usize = 3;
+    const NUMBERS: usize = NUMBERS_PER_VERTEX;
 
-    const FLOATS: usize = 7;
+    const FLOATS: usize = FLOATS_PER_VERTEX;
 
     fn read(numbers: &[u32], floats: &[f64], i: usize) -> Vertex {
         compress::vertex_at(numbers, floats, i)
@@ -157,7 +159,7 @@ impl<'a, R: Row> Table<'a, R> {
 impl Table<'_, Edge> {
     // The front of a use.
     pub fn front(&self, u: u32) -> u32
-        requires { HasRow 4 6 self.now.numbers.now self.now.floats.now (u / 2) }
+        requires { HasEdge self.now.numbers.now self.now.floats.now (u / 2) }
         ensures { result ≡ front_at (edge_at self.now.numbers.now self.now.floats.now) u }
     {
         compress::front_at(self.numbers, self.floats, u)

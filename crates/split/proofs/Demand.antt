@@ -1,29 +1,29 @@
 -- Demand 3: every split keeps each directed use, whatever it is lent. Assumes nothing.
 use mathlib.Core.Path.{◌≡◌, refl, ap, sym, subst, ◌∙◌}
 use mathlib.Core.Bool.{Bool, true, false, ◌&&◌}
-use mathlib.Core.List.{List, [], ◌∷◌, ◌++◌, append_assoc}
+use mathlib.Core.List.{List, ◌∷◌}
 use mathlib.Core.Logic.{◌≢◌, ⊎_elim}
 use Prim.Native.Nat.{ℕ, zero, suc, ◌+◌, ◌*◌, ◌/◌, ◌≤◌, ◌<◌}
 use native.Mathlib.Omega.{arith}
 use borrow.Author.Tests.{ltb-true, ltb-false, leb-true, leb-false, eqb-true, eqb-false, ne_eqb}
 use lib.Dec.{eqb, leb, ltb}
-use lib.ListN.{length, get_or, take}
-use lib.Seq.{take-append_seam, drop-append_seam, take_at}
+use lib.ListN.{length, get_or}
+use lib.Seq.{take-append_seam}
 use Rattle.compress.specs.Records.{pick}
-use Rattle.compress.specs.Said.{Said, result, refused}
-use Rattle.compress.specs.Wires.{wires_of, uses_of, lengths_of, over}
-use Rattle.compress.proofs.Wires.{length_lengths}
+use Rattle.compress.specs.Said.{Said, result, refused, cause_or}
+use Rattle.compress.specs.Wires.{uses_of}
+use Rattle.compress.proofs.Refused.{refused_never, result_told}
+use Rattle.compress.proofs.Wires.{wires_stored}
 use Rattle.walk.specs.Walk.{Answer, wires}
 use Rattle.walk.specs.lists.Members.{count}
 use Rattle.walk.specs.Walk as walk
 use Rattle.walk.specs.Claim.{Claimed}
 use Rattle.walk.proofs.lists.Counts.{bit, count_cons, count_append}
-use Rattle.walk.proofs.Storing.{uses_joined}
 use Rattle.walk.proofs.Tabled.{table_theorem, table_balanced}
 use Rattle.walk.specs.marks.Marks.{new_uses}
 use Rattle.split.specs.declared.Boundaries.{Boundaries}
 use Rattle.split.specs.Split.{seams, edges_after, marked_in, uses_to_walk, split_wires}
-use Rattle.split.specs.Contract.{given_in, SplitOutcome, split_stored, after_walk, cause_or_walk, split_outcome}
+use Rattle.split.specs.Contract.{given_in, SplitOutcome, split_stored, turned_away, after_walk, split_outcome}
 use Rattle.split.specs.split_causes.Causes.{LentSplit, split_cause}
 use Rattle.split.specs.Demand.{front_in, back_in, fronts_at, backs_at, counted, KeepsUses}
 use Rattle.split.proofs.split_causes.Accepted.{split_checked}
@@ -96,18 +96,6 @@ counted_all l u =
     ∙ ap (λ (n : ℕ). count (eqb u) (given_in l).rebuilt + n)
     (count_new u (length (given_in l).edges) (length (seams (given_in l))) ∙ rw (length_edges l, length_seams l))
 
--- ---- wires that were stored, read back
-
-wires_back : (ws : List (List ℕ)) (rest : List ℕ) → wires_of (uses_of ws ++ rest) (lengths_of ws) ≡ ws
-unfolding wires_of uses_of lengths_of
-wires_back [] rest = refl
-wires_back (w ∷ ws) rest =
-    rw (append_assoc w (uses_of ws) rest, take-append_seam w (uses_of ws ++ rest), drop-append_seam w (uses_of ws ++ rest))
-    (ap (λ (x : List (List ℕ)). w ∷ x) (wires_back ws rest))
-
-wires_stored : (ws : List (List ℕ)) (us ls : List ℕ) → wires_of (over (uses_of ws) us) (take (length ws) (over (lengths_of ws) ls)) ≡ ws
-wires_stored ws us ls = rw (take_at (lengths_of ws) _ (length ws) (length_lengths ws)) (wires_back ws _)
-
 -- ---- the outcome
 
 module _ (l : LentSplit) where
@@ -117,14 +105,11 @@ module _ (l : LentSplit) where
       record {
         succeeds = λ q even few. absurd (omega arith);
         refuses = λ q v ne. absurd (omega arith);
-        each = λ c p. absurd (never p);
-        all = λ c p. absurd (never p);
-        wire = λ c p. absurd (never p);
+        each = λ c p. absurd (refused_never (suc n) p);
+        all = λ c p. absurd (refused_never (suc n) p);
+        wire = λ c p. absurd (refused_never (suc n) p);
         no_dead_end = λ q even p. omega arith;
       }
-    where
-      never : {c : Boundaries} → ◌≡◌ {A = Said Boundaries} (refused (suc n)) (result c) → ⊥
-      never p = let z : ◌≡◌ {A = ℕ} 0 1 = cc in omega arith
 
   module _ (none : split_cause l ≡ 0) where
     fits : (k : ℕ) → k < length (uses_to_walk (given_in l)) → front_in l (get_or (uses_to_walk (given_in l)) k 0) < l.vertices
@@ -146,15 +131,12 @@ module _ (l : LentSplit) where
         record {
           succeeds = λ q even few. absurd (no_wires (claimed.succeeds even few).0 (claimed.succeeds even few).1);
           refuses = λ q v ne. (n, refl);
-          each = λ c p. absurd (never p);
-          all = λ c p. absurd (never p);
-          wire = λ c p. absurd (never p);
+          each = λ c p. absurd (refused_never n p);
+          all = λ c p. absurd (refused_never n p);
+          wire = λ c p. absurd (refused_never n p);
           no_dead_end = λ q even p. not_eleven even (e ∙ ap walk.refused (same p));
         }
       where
-        never : {c : Boundaries} → ◌≡◌ {A = Said Boundaries} (refused n) (result c) → ⊥
-        never p = let z : ◌≡◌ {A = ℕ} 0 1 = cc in omega arith
-
         same : ◌≡◌ {A = Said Boundaries} (refused n) (refused 11) → n ≡ 11
         same p = cc
 
@@ -168,18 +150,15 @@ module _ (l : LentSplit) where
         record {
           succeeds = λ q even few. (_, refl);
           refuses = λ q v ne. absurd (⊎_elim (never 11) (never 12) (claimed.refuses v ne));
-          each = λ c p u. rw (sym (counts c p), wires_stored ws l.buffers.us l.buffers.ls) (told u);
-          all = λ c p. rw (sym (counts c p), wires_stored ws l.buffers.us l.buffers.ls) (sym (take-append_seam (uses_of ws) _));
+          each = λ c p u. rw (sym (result_told said c p), wires_stored ws l.buffers.us l.buffers.ls) (told u);
+          all = λ c p. rw (sym (result_told said c p), wires_stored ws l.buffers.us l.buffers.ls) (sym (take-append_seam (uses_of ws) _));
           wire = λ c p i h.
-              rw (sym (counts c p), wires_stored ws l.buffers.us l.buffers.ls) (claimed.wire ws e i (subst (λ (d : Boundaries). i < d.wires) (sym (counts c p)) h));
+              rw (sym (result_told said c p), wires_stored ws l.buffers.us l.buffers.ls) (claimed.wire ws e i (subst (λ (d : Boundaries). i < d.wires) (sym (result_told said c p)) h));
           no_dead_end = λ q even. other;
         }
       where
         said : Boundaries
         said = record { wires = length ws; uses = length (uses_of ws); edges = length (edges_after (given_in l)) }
-
-        counts : (c : Boundaries) → ◌≡◌ {A = Said Boundaries} (result said) (result c) → said ≡ c
-        counts c p = cc
 
         never : (n : ℕ) → split_wires (given_in l) ≡ walk.refused n → ⊥
         never n p = let z : ◌≡◌ {A = ℕ} 0 1 = cc in omega arith
@@ -188,13 +167,13 @@ module _ (l : LentSplit) where
         other p = let z : ◌≡◌ {A = ℕ} 0 1 = cc in omega arith
 
         told : (u : ℕ) → count (eqb u) (uses_of ws) ≡ counted l u
-        told u = ap (count (eqb u)) (uses_joined ws) ∙ claimed.each ws e u ∙ counted_all l u
+        told u = claimed.each ws e u ∙ counted_all l u
 
     keeps_answer : (a : Answer) → split_wires (given_in l) ≡ a → KeepsUses l (after_walk (given_in l) l.buffers a)
     keeps_answer (wires ws) e = keeps_wires ws e
     keeps_answer (walk.refused n) e = keeps_refused n e
 
-  keeps_by : (n : ℕ) → split_cause l ≡ n → KeepsUses l (cause_or_walk n (given_in l) l.buffers (split_wires (given_in l)))
+  keeps_by : (n : ℕ) → split_cause l ≡ n → KeepsUses l (cause_or n (turned_away l.buffers) (after_walk (given_in l) l.buffers (split_wires (given_in l))))
   keeps_by zero e = keeps_answer e (split_wires (given_in l)) refl
   keeps_by (suc n) e = keeps_cause n e
 

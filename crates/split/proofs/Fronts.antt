@@ -11,9 +11,8 @@ use lib.ListN.{length, get_or, take, length-append, get_or-append}
 use lib.Seq.{length-take-le, get_or-take, get_or-append-add}
 use Rattle.compress.specs.declared.Edge.{Edge}
 use Rattle.compress.specs.Records.{pick, front_of, back_of, front_at, back_at}
-use Rattle.compress.specs.Layout.{rows}
-use Rattle.compress.specs.Rows.{edge_of, edge_at}
-use Rattle.compress.proofs.Layouts.{length_rows, get_d_rows}
+use Rattle.compress.specs.Rows.{numbers_per_edge, edge_of, edge_at}
+use Rattle.compress.proofs.Layouts.{length_rows, row_at}
 use Rattle.checks.proofs.Accepted.{edge_ends}
 use Rattle.walk.specs.lists.Ends.{end_in, end_of}
 use Rattle.walk.specs.lists.Ends as ends
@@ -21,7 +20,7 @@ use Rattle.split.specs.declared.seams.Stop.{Stop}
 use Rattle.split.specs.seams.Seams.{stop_at, seam_of, seams_of}
 use Rattle.walk.specs.marks.Marks.{new_uses}
 use Rattle.walk.proofs.marks.Marks.{length_new_uses, get_or_new_uses}
-use Rattle.split.specs.Split.{seams, no_edge, edge_after, front_after, back_after, uses_to_walk}
+use Rattle.split.specs.Split.{seams, edges_after, no_edge, edge_after, front_after, back_after, uses_to_walk}
 use Rattle.split.specs.split_causes.Causes.{LentSplit, rebuilt_total, pairs, split_count}
 use Rattle.split.specs.Contract.{given_in}
 use Rattle.split.proofs.split_causes.Accepted.{SplitAccepted}
@@ -47,11 +46,6 @@ get_or_seams_of s d z (a ∷ b ∷ ps) (suc k) h =
 
 -- ---- off the lent slices
 
-row_at : {R : Type 0} (d : R) (at : ℕ → R) (n i : ℕ) → i < n → get_or (rows at 0 n) i d ≡ at i
-row_at d at n i h =
-    let p : 0 + i ≡ i = omega arith in
-    get_d_rows d at 0 n i h ∙ ap at p
-
 module _ (l : LentSplit) where
   pub length_seams : length (seams (given_in l)) ≡ pairs l
   unfolding given_in
@@ -72,6 +66,10 @@ module _ (l : LentSplit) where
   pub length_edges : length (given_in l).edges ≡ l.edges
   unfolding given_in
   length_edges = length_rows (edge_at l.buffers.en l.buffers.ef) 0 l.edges
+
+  -- the edges after the split
+  pub length_after : length (edges_after (given_in l)) ≡ l.edges + pairs l
+  length_after = length-append (given_in l).edges (seams (given_in l)) ∙ rw (length_edges, length_seams)
 
   -- a lent edge
   pub edge_row : (i : ℕ) → i < l.edges → edge_after (given_in l) i ≡ edge_at l.buffers.en l.buffers.ef i
@@ -112,7 +110,7 @@ module _ (l : LentSplit) where
 
       go : (i : ℕ) → i < 2 → (b : Bool) → ltb e l.edges ≡ b → end_after i (edge_after (given_in l) e) ≡ end_in b l.buffers.en paired l.edges e i
       go zero a true q =
-          let p : e * 4 + 0 ≡ e * 4 = omega arith in
+          let p : e * numbers_per_edge + 0 ≡ e * numbers_per_edge = omega arith in
           ap (end_after 0) (row (ltb-true e l.edges q)) ∙ rw p
       go (suc zero) a true q = ap (end_after 1) (row (ltb-true e l.edges q))
       go zero a false q =

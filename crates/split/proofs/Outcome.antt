@@ -15,7 +15,7 @@ use Rattle.compress.specs.declared.Refusal.{Refusal}
 use Rattle.compress.specs.Layout.{store_from, rows}
 use Rattle.compress.specs.Records.{pick, front_of, back_of, front_at, back_at}
 use Rattle.compress.specs.Refusals.{refusal_number}
-use Rattle.compress.specs.Rows.{edge_of, edge_at, edge_number_layout, edge_float_layout}
+use Rattle.compress.specs.Rows.{numbers_per_edge, edge_of, edge_at, edge_number_layout, edge_float_layout}
 use Rattle.compress.proofs.Layouts.{length_rows, rows_agree, store_append, store_same}
 use Rattle.compress.proofs.Room.{edges_room}
 use Rattle.compress.proofs.Rows.{edge_numbers_stand, edge_floats_stand}
@@ -36,7 +36,7 @@ use Rattle.split.specs.Steps.{Roomy, after_lent}
 use Rattle.split.proofs.split_causes.Accepted.{SplitChecked, split_checked}
 use Rattle.split.specs.Demand.{KeepsUses}
 use Rattle.split.proofs.Demand.{call_keeps}
-use Rattle.split.proofs.Fronts.{length_seams, length_edges, paired, front_lent, back_lent, uses_known, front_below}
+use Rattle.split.proofs.Fronts.{length_seams, length_edges, length_after, paired, front_lent, back_lent, uses_known, front_below}
 use Rattle.walk.specs.lists.Ends as ends
 use Rattle.walk.specs.Walk as walk
 
@@ -60,10 +60,10 @@ module _ (l : LentSplit) (C : SplitChecked l) where
   size_stops : length stops_in ≡ l.stops
   size_stops = length-take-le l.stops l.divisor C.accepted.stops_lent
 
-  row_ends : (e j : ℕ) → e < l.edges → j < 2 → get_or l.buffers.en (e * 4 + j) 0 < 4096
+  row_ends : (e j : ℕ) → e < l.edges → j < 2 → get_or l.buffers.en (e * numbers_per_edge + j) 0 < 4096
   unfolding edge_of
   row_ends e zero h g =
-      let p : e * 4 + 0 ≡ e * 4 = omega arith in
+      let p : e * numbers_per_edge + 0 ≡ e * numbers_per_edge = omega arith in
       rw p (omega (arith, edge_ends l.vertices (edge_at l.buffers.en l.buffers.ef e) (C.accepted.edges.rows e h), C.accepted.vertices))
   row_ends e (suc zero) h g = omega (arith, edge_ends l.vertices (edge_at l.buffers.en l.buffers.ef e) (C.accepted.edges.rows e h), C.accepted.vertices)
   row_ends e (suc (suc j)) h g = absurd (omega arith)
@@ -102,14 +102,11 @@ module _ (l : LentSplit) (C : SplitChecked l) where
       }
 
   -- ---- fronts and backs are the same for every number, those of no edge too
-  length_after : length (edges_after (given_in l)) ≡ l.edges + pairs l
-  length_after = length-append (given_in l).edges (seams (given_in l)) ∙ rw (length_edges l, length_seams l)
-
   paired_is : paired l ≡ stops_in
   paired_is = ap (λ (n : ℕ). take n l.divisor) (sym C.even)
 
   no_edge_past : (e : ℕ) → l.edges + pairs l ≤ e → edge_after (given_in l) e ≡ no_edge
-  no_edge_past e h = get_or-eq_default (edges_after (given_in l)) no_edge {n = e} (omega (arith, length_after))
+  no_edge_past e h = get_or-eq_default (edges_after (given_in l)) no_edge {n = e} (omega (arith, length_after l))
 
   no_end : (e j : ℕ) → l.edges + pairs l ≤ e → end_of l.buffers.en stops_in l.edges e j ≡ 0
   unfolding end_of

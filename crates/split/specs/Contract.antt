@@ -1,9 +1,9 @@
 -- The contract of the call `split_boundaries_by_divisor`: one answer and one content of every lent slice for each input. Definitions only.
-use Rattle.std.specs.Prelude.{List, ℕ, zero, suc, Float, length, take, Result}
+use Rattle.std.specs.Prelude.{List, ℕ, Float, length, take, Result}
 use Rattle.compress.specs.Layout.{store, rows}
 use Rattle.compress.specs.declared.Refusal.{Refusal}
 use Rattle.compress.specs.Rows.{edge_at, edge_number_layout, edge_float_layout}
-use Rattle.compress.specs.Said.{Said, result, refused, said_of}
+use Rattle.compress.specs.Said.{Said, result, refused, cause_or, said_of}
 use Rattle.compress.specs.Wires.{uses_of, lengths_of, over}
 use Rattle.walk.specs.Walk.{Answer, wires}
 use Rattle.split.specs.split_causes.Causes.{Buffers, LentSplit, face_total, rebuilt_total, split_cause}
@@ -49,13 +49,13 @@ split_stored g b ws =
       };
     }
 
+-- the call is turned away: nothing lent is changed
+abbrev pub turned_away : Buffers → ℕ → SplitOutcome
+turned_away b n = record { said = refused n; buffers = b }
+
 abbrev pub after_walk : Given → Buffers → Answer → SplitOutcome
 after_walk g b (wires ws) = split_stored g b ws
-after_walk g b (walk.refused c) = record { said = refused c; buffers = b }
-
-abbrev pub cause_or_walk : ℕ → Given → Buffers → Answer → SplitOutcome
-cause_or_walk zero g b a = after_walk g b a
-cause_or_walk (suc n) g b a = record { said = refused (suc n); buffers = b }
+after_walk g b (walk.refused c) = turned_away b c
 
 unfoldable pub split_outcome : LentSplit → SplitOutcome
-split_outcome l = cause_or_walk (split_cause l) (given_in l) l.buffers (split_wires (given_in l))
+split_outcome l = cause_or (split_cause l) (turned_away l.buffers) (after_walk (given_in l) l.buffers (split_wires (given_in l)))

@@ -2,8 +2,10 @@
 use Rattle.std.specs.Prelude.{◌≡◌, refl, List, [], ◌∷◌, ℕ, Float}
 use Rattle.std.specs.Float.{binary64}
 use Rattle.std.specs.Float.Ieee.{of_bits}
+use Rattle.compress.specs.Constants.{zero64, one64, two64, four64}
 use Rattle.compress.specs.declared.Curve.TheVariants.{Span, Seam}
 use Rattle.compress.specs.declared.Edge.{Edge}
+use Rattle.compress.specs.Worked.{between, k9_edges, k9_wire}
 use Rattle.compress.specs.Records.{front_of, back_of, front_at, back_at}
 use Rattle.walk.specs.Walk.{Answer, wires, refused}
 use Rattle.walk.specs.Table.{steps, opened, table_walk}
@@ -14,34 +16,12 @@ use Rattle.split.specs.Split.{Given, edges_after, split_wires}
 
 -- ---- numbers and records of the cases
 
-abbrev pub zero64 : Float
-zero64 = of_bits binary64 0
-
-abbrev pub one64 : Float
-one64 = of_bits binary64 0x3ff0_0000_0000_0000
-
-abbrev pub two64 : Float
-two64 = of_bits binary64 0x4000_0000_0000_0000
-
-abbrev pub four64 : Float
-four64 = of_bits binary64 0x4010_0000_0000_0000
-
-abbrev pub between : ℕ → ℕ → Edge
-between a b = record { front = a; back = b; curve = Span 0 zero64 one64 }
-
 abbrev pub stop : ℕ → Float → Float → Stop
 stop n a b = record { vertex = n; point = record { u = a; v = b } }
 
 -- a split of vertices and edges with the same wire as the face's and to be rebuilt, on surface 7
 abbrev pub given : ℕ → List Edge → List ℕ → List Stop → Given
 given n es us ps = record { vertices = n; edges = es; face = us; rebuilt = us; stops = ps; surface = 7 }
-
--- "K9: edges 0 = (0, 2), 1 = (0, 1), 2 = (1, 0), 3 = (2, 3), 4 = (3, 2); .. wire 1+ 2+ 0+ 3+ 4+ 0-."
-abbrev pub k9_edges : List Edge
-k9_edges = between 0 2 ∷ between 0 1 ∷ between 1 0 ∷ between 2 3 ∷ between 3 2 ∷ []
-
-abbrev pub k9_wire : List ℕ
-k9_wire = 2 ∷ 4 ∷ 0 ∷ 6 ∷ 8 ∷ 1 ∷ []
 
 -- ---- document 01's cases
 

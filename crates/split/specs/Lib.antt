@@ -3,6 +3,7 @@ pub mod Split
 pub mod Contract
 pub mod Steps
 pub mod Demand
+pub mod Reading
 pub mod Examples
 pub mod Left
 pub mod seams

@@ -2,10 +2,11 @@
 use Rattle.std.specs.Prelude.{List, ℕ, ◌+◌, ◌*◌, ◌≤◌, Float, length}
 use Rattle.compress.specs.declared.Edge.{Edge}
 use Rattle.compress.specs.Layout.{store_from}
-use Rattle.compress.specs.Rows.{edge_number_layout, edge_float_layout}
+use Rattle.compress.specs.Rows.{numbers_per_edge, floats_per_edge, edge_number_layout, edge_float_layout}
 use Rattle.compress.specs.Said.{result, refused}
 use Rattle.compress.specs.Wires.{uses_of, lengths_of, over}
 use Rattle.walk.specs.Walk.{Answer, wires}
+use Rattle.split.specs.seams.Seams.{floats_per_pair}
 use Rattle.split.specs.split_causes.Causes.{Buffers}
 use Rattle.split.specs.Contract.{SplitOutcome}
 use Rattle.walk.specs.Walk as walk
@@ -28,6 +29,6 @@ after_lent b edges seams (walk.refused c) = record { said = refused c; buffers =
 pub record Roomy (b : Buffers) (edges count pairs : ℕ) (fs : List Float) : Type 0 where
   pub uses : count ≤ length b.us
   pub lengths : count ≤ length b.ls
-  pub numbers : (edges + pairs) * 4 ≤ length b.en
-  pub floats : (edges + pairs) * 6 ≤ length b.ef
-  pub points : pairs * 4 ≤ length fs
+  pub numbers : (edges + pairs) * numbers_per_edge ≤ length b.en
+  pub floats : (edges + pairs) * floats_per_edge ≤ length b.ef
+  pub points : pairs * floats_per_pair ≤ length fs

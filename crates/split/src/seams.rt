@@ -3,16 +3,19 @@
 ghost use Rattle.std.specs.Prelude.{◌≡◌, ℕ, ◌+◌, ◌*◌, ◌/◌, ◌≤◌, ◌<◌, [], length, get_or};
 ghost use Rattle.std.specs.Float.{nan};
 ghost use Rattle.compress.specs.Layout.{store_from, rows};
-ghost use Rattle.compress.specs.Rows.{edge_number_layout, edge_float_layout};
+ghost use Rattle.compress.specs.Rows.{numbers_per_edge, floats_per_edge, edge_number_layout, edge_float_layout};
 ghost use Rattle.compress.specs.Refusals.{cause_of};
 ghost use Rattle.rows.specs.Places.{SameTable};
-ghost use Rattle.split.specs.seams.Seams.{stop_at, seam_of, seams_of, repeats_after};
+ghost use Rattle.split.specs.seams.Seams.{floats_per_stop, floats_per_pair, stop_at, seam_of, seams_of, repeats_after};
 ghost use Rattle.split.specs.seams.Stops.{odd_cause, repeat_cause, stop_cause, stops_cause};
 
 use compress::{Checked, Curve, Edge, Refusal, Uv};
 use rows::tables::TableMut;
 
 // ---- the vertices on the divisor
+
+// How many floats a vertex on the divisor has: its uv point.
+const FLOATS_PER_STOP: usize = 2;
 
 // A vertex on the divisor, "with its uv point".
 #[derive(Clone, Copy)]
@@ -21,7 +24,7 @@ pub struct Stop {
     pub point: Uv,
 }
 
-// The divisor, as a host lends it: vertices, their uv points of two floats each, and how many they are said to be.
+// The divisor, as a host lends it: vertices, their uv points, and how many they are said to be.
 // Nothing is checked of it here.
 #[derive(Clone, Copy)]
 pub struct Divisor<'a> {
@@ -33,18 +36,18 @@ pub struct Divisor<'a> {
 impl Divisor<'_> {
     // The vertex in row i.
     fn stop_at(&self, i: usize) -> Stop
-        requires { (i < length self.now.vertices.now) × (i * 2 + 2 ≤ length self.now.points.now) }
+        requires { (i < length self.now.vertices.now) × (i * floats_per_stop + floats_per_stop ≤ length self.now.points.now) }
         ensures { result ≡ stop_at self.now.vertices.now self.now.points.now i }
     {
         Stop {
             vertex: self.vertices[i],
-            point: Uv::read(self.points, i * 2),
+            point: Uv::read(self.points, i * FLOATS_PER_STOP),
         }
     }
 
     #[tactic(auto, unfolding(crate::specs::seams::Stops::stop_cause))]
     fn stop_cause(&self, vertices: usize, i: usize) -> Checked
-        requires { (i < length self.now.vertices.now) × (i * 2 + 2 ≤ length self.now.points.now) }
+        requires { (i < length self.now.vertices.now) × (i * floats_per_stop + floats_per_stop ≤ length self.now.points.now) }
         ensures { cause_of result ≡ stop_cause vertices self.now.vertices.now self.now.points.now i }
     {
         let stop = self.stop_at(i);
@@ -60,7 +63,7 @@ impl Divisor<'_> {
         ensures { cause_of result ≡ stops_cause vertices self.now.vertices.now self.now.points.now self.now.count }
     {
         let count = self.count;
-        if self.vertices.len() < count || self.points.len() / 2 < count {
+        if self.vertices.len() < count || self.points.len() / FLOATS_PER_STOP < count {
             return Err(Refusal::Malformed);
         }
         checks::lowest_cause(count, |i| self.stop_cause(vertices, i))
@@ -131,10 +134,10 @@ fn seam_of(surface: u32, a: Stop, b: Stop) -> Edge
 
 // `create_new_edges`: a seam for each pair of vertices of the divisor is written to the rows past the table, whose count stays as it was lent.
 pub(crate) fn create_new_edges(edges: &mut TableMut<Edge>, divisor: &Divisor, surface: u32)
-    requires numbers_room { (edges.old.count + divisor.now.count / 2) * 4 ≤ length edges.old.numbers.now }
-    requires floats_room { (edges.old.count + divisor.now.count / 2) * 6 ≤ length edges.old.floats.now }
+    requires numbers_room { (edges.old.count + divisor.now.count / 2) * numbers_per_edge ≤ length edges.old.numbers.now }
+    requires floats_room { (edges.old.count + divisor.now.count / 2) * floats_per_edge ≤ length edges.old.floats.now }
     requires stops_lent { divisor.now.count / 2 * 2 ≤ length divisor.now.vertices.now }
-    requires points_lent { divisor.now.count / 2 * 4 ≤ length divisor.now.points.now }
+    requires points_lent { divisor.now.count / 2 * floats_per_pair ≤ length divisor.now.points.now }
     ensures edge_numbers_after { let stops = rows (stop_at divisor.now.vertices.now divisor.now.points.now) 0 (divisor.now.count / 2 * 2) in
         edges.new.numbers.now ≡ store_from edge_number_layout edges.old.numbers.now edges.old.count (seams_of surface stops) }
     ensures edge_floats_after { let stops = rows (stop_at divisor.now.vertices.now divisor.now.points.now) 0 (divisor.now.count / 2 * 2) in

@@ -14,12 +14,13 @@ use Rattle.compress.specs.Records.{closed, pick}
 use Rattle.compress.specs.Layout.{rows, store}
 use Rattle.compress.specs.declared.Refusal.{Refusal}
 use Rattle.compress.specs.Refusals.{refusal_number}
-use Rattle.compress.specs.Rows.{edge_at, vertex_at, edge_number_layout, edge_float_layout, vertex_number_layout, vertex_float_layout}
+use Rattle.compress.specs.Rows.{numbers_per_edge, edge_at, vertex_at, edge_number_layout, edge_float_layout, vertex_number_layout, vertex_float_layout}
 use Rattle.compress.specs.Shell.{Shell, load, vertices_fit, edges_fit}
 use Rattle.compress.specs.Wires.{wires_of}
 use Rattle.compress.proofs.Layouts.{length_rows}
 use Rattle.std.proofs.lemmas.Bool.{and_parts}
 use Rattle.compress.proofs.Room.{vertices_room, edges_room}
+use Rattle.compress.proofs.Refused.{cause_met}
 use Rattle.checks.specs.Causes.{wires_cause}
 use Rattle.split_closed_edges.specs.add_edges.Add.{next, new_edge, new_vertex, kept_edges, new_edges, new_vertices, added_to}
 use Rattle.cutting.specs.mending.Replace.{replace_wires}
@@ -27,14 +28,14 @@ use Rattle.split_closed_edges.specs.Pass.{split_closed_edges}
 use Rattle.split_closed_edges.specs.add_edges.Steps.{closed_count, Addable, Added, Marked}
 use Rattle.split_closed_edges.specs.Steps.{closed_in, uses_told, ClosedMended}
 use Rattle.cutting.specs.mending.Steps.{AreNumbers, InPlace, count_told}
-use Rattle.cutting.specs.Contract.{lent_of, leaves, input_cause}
+use Rattle.cutting.specs.Contract.{turned_away, lent_of, leaves, input_cause}
 use Rattle.split_closed_edges.specs.Contract.{outcome_of}
 use Rattle.split_closed_edges.proofs.add_edges.Edges.{length_kept}
 use Rattle.compress.specs.declared.Refusal.TheVariants as refusal
 use Rattle.std.specs.Prelude.{Option, Some, None, IfSome, Result, Ok, Err, is_ok}
 use Rattle.split_closed_edges.specs.declared.Closing.{Closing}
 use Rattle.cutting.specs.declared.mending.NoRoom.{NoRoom}
-use Rattle.cutting.proofs.Outcome.{Accepted, accepted, no_cause, way_cause, vertices_stand, result_full, result_done}
+use Rattle.cutting.proofs.Outcome.{Accepted, accepted, no_cause, vertices_stand, result_full, result_done}
 
 -- ---- as many new edges and new vertices as closed edges
 new_edge_length : (b : Bool) (n : ℕ) (e : Edge) (es : List Edge) (k : ℕ) → length es ≡ k → length (new_edge b n e ++ es) ≡ next b k
@@ -127,10 +128,10 @@ module _ (vn : List ℕ) (vf : List Float) (en : List ℕ) (ef : List Float) (us
   pub outcome_cause : (r : Refusal) → refusal_number r ≡ input_cause (lent_of vn vf en ef us ls v e w)
       → leaves (Err r) vn vf en ef us ls ≡ outcome_of (lent_of vn vf en ef us ls v e w)
   unfolding outcome_of
-  outcome_cause r q = way_cause r _ _ _ q
+  outcome_cause r q = cause_met r _ (turned_away _) _ q
 
   -- the wires can be mended
-  pub closable : input_cause (lent_of vn vf en ef us ls v e w) ≡ 0 → (e ≤ 4096) × (e * 4 ≤ length en) × (wires_cause e us ls w ≡ 0)
+  pub closable : input_cause (lent_of vn vf en ef us ls v e w) ≡ 0 → (e ≤ 4096) × (e * numbers_per_edge ≤ length en) × (wires_cause e us ls w ≡ 0)
   closable z =
       let A = accepted vn vf en ef us ls v e w z in
       (A.edges.below, A.edges.numbers, (no_cause vn vf en ef us ls v e w z).2)

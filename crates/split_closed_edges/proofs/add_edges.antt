@@ -1,4 +1,4 @@
 pub mod Edges
 pub mod Adding
 pub mod Marking
-pub mod Quads
+pub mod NumberRows

@@ -5,11 +5,11 @@ ghost use Rattle.compress.specs.Records.{closed};
 ghost use Rattle.rows.specs.Held.{edge_in};
 ghost use Rattle.rows.specs.Places.{SameTable};
 ghost use Rattle.compress.specs.Layout.{rows};
-ghost use Rattle.compress.specs.Rows.{HasRow, edge_at, edge_number_layout, edge_float_layout, vertex_number_layout, vertex_float_layout};
+ghost use Rattle.compress.specs.Rows.{HasEdge, numbers_per_edge, edge_at, edge_number_layout, edge_float_layout, vertex_number_layout, vertex_float_layout};
 ghost use Rattle.split_closed_edges.specs.add_edges.Add.{next};
 ghost use Rattle.split_closed_edges.specs.add_edges.Steps.{cut_rows, pending_row, PlaceFor, Addable, Added, Marked};
 
-use compress::{Edge, Vertex};
+use compress::{Edge, NUMBERS_PER_EDGE, Vertex};
 use rows::tables::{Table, TableMut};
 
 // ---- the tables
@@ -22,7 +22,7 @@ fn add_edge(
     n: usize,
     m: usize,
 ) -> bool
-    requires i_in_bounds { HasRow 4 6 edges.old.numbers.now edges.old.floats.now i }
+    requires i_in_bounds { HasEdge edges.old.numbers.now edges.old.floats.now i }
     requires place_for { let v = vertices.old in
         let e = edges.old in
         closed (edge_in e i) ≡ true → PlaceFor n m v.numbers.now v.floats.now e.numbers.now e.floats.now }
@@ -84,13 +84,17 @@ pub fn add_edges(vertices: &mut TableMut<Vertex>, edges: &mut TableMut<Edge>)
 // The answer is how many are closed.
 // Of the edges the numbers are read, and lent as a table all the same: alone they would have a count beside them again.
 pub fn mark_closed(edges: &Table<Edge>, added: &mut [Option<u32>]) -> usize
-    requires { (edges.now.count ≤ 4096) × (edges.now.count * 4 ≤ length edges.now.numbers.now) × (edges.now.count ≤ length added.old) }
+    requires { let e = edges.now in
+        (e.count ≤ 4096) × (e.count * numbers_per_edge ≤ length e.numbers.now) × (e.count ≤ length added.old) }
     ensures { (fs : List Float) → Marked (rows (edge_at edges.now.numbers.now fs) 0 edges.now.count) added.old added.new result }
 {
     let count = edges.count;
     let mut m = count as u32;
     // Written by number: over a zip with `iter_mut` the proof did not close, since what the loop wrote is not known after it.
-    for (i, row) in edges.numbers[..count * 4].chunks_exact(4).enumerate() {
+    for (i, row) in edges.numbers[..count * NUMBERS_PER_EDGE]
+        .chunks_exact(NUMBERS_PER_EDGE)
+        .enumerate()
+    {
         let cut = row[0] == row[1];
         added[i] = cut.then_some(m);
         m += u32::from(cut);

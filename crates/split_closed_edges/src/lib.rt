@@ -10,6 +10,7 @@ ghost use Rattle.cutting.specs.Contract.{input_cause};
 ghost use Rattle.cutting.specs.Lent.{lent, left};
 ghost use Rattle.split_closed_edges.specs.Steps.{closed_mended};
 ghost use Rattle.split_closed_edges.specs.Contract.{outcome_of};
+ghost use Rattle.compress.specs.Rows.{numbers_per_edge};
 
 use compress::{Counts, Edge, Refusal, Vertex};
 use cutting::mending::NoRoom;
@@ -30,7 +31,7 @@ fn mend_within<const N: usize>(
     wires: &mut WiresMut,
     room: usize,
 ) -> Result<Closing, NoRoom>
-    requires table { (edges.now.count ≤ N) × (N ≤ 4096) × (edges.now.count * 4 ≤ length edges.now.numbers.now) }
+    requires table { (edges.now.count ≤ N) × (N ≤ 4096) × (edges.now.count * numbers_per_edge ≤ length edges.now.numbers.now) }
     requires wires_value { wires_cause edges.now.count wires.old.uses.now wires.old.lengths.now wires.old.count ≡ 0 }
     ensures mended { closed_mended edges.now room wires.old wires.new result }
     ensures same { SameWires wires.old wires.new }
@@ -43,7 +44,7 @@ fn mend_within<const N: usize>(
 
 // The same by a table that is large enough: few edges have a small one, since to fill it takes time.
 fn mend_closed(edges: &Table<Edge>, wires: &mut WiresMut, room: usize) -> Result<Closing, NoRoom>
-    requires table { (edges.now.count ≤ 4096) × (edges.now.count * 4 ≤ length edges.now.numbers.now) }
+    requires table { (edges.now.count ≤ 4096) × (edges.now.count * numbers_per_edge ≤ length edges.now.numbers.now) }
     requires wires_value { wires_cause edges.now.count wires.old.uses.now wires.old.lengths.now wires.old.count ≡ 0 }
     ensures mended { closed_mended edges.now room wires.old wires.new result }
     ensures same { SameWires wires.old wires.new }

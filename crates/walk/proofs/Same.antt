@@ -12,7 +12,8 @@ use lib.Dec.{eqb, ltb}
 use borrow.Author.Tests.{eqb-true, eqb-false, ne_eqb, ltb-true, ltb-false}
 use Rattle.walk.specs.Walk.{Move, finish, refuse, fresh, along, State, least, begin, begun, choose, closed, gone, turn, move, run, walk}
 use Rattle.walk.specs.lists.Members.{put, del, sits, at, without}
-use Rattle.walk.specs.Table.{Entry, absent, Table, Start, nowhere, vertex, Stand, pick, entry_uses, has_uses, kept, update, pushed, filled, table_of, taken, first_from, smallest, again, arrive, starts, follows, next, steps, opened, table_walk}
+use Rattle.compress.specs.Records.{pick}
+use Rattle.walk.specs.Table.{Entry, absent, Table, Start, nowhere, vertex, Stand, entry_uses, has_uses, kept, update, pushed, filled, table_of, taken, first_from, smallest, again, arrive, starts, follows, next, steps, opened, table_walk}
 use Rattle.walk.proofs.lists.Members.{del_nil, at_same, at_other, at_more, filter_snoc}
 use Rattle.walk.proofs.Buckets.{begin_finish, begin_fresh}
 

@@ -10,7 +10,8 @@ use mathlib.Core.List.{List, [], ◌∷◌, ◌++◌, append-nil, append_assoc}
 use lib.ListN.{length, take, drop, get_or, set, take-append-drop}
 use lib.Seq.{length-take-le, take-suc-set, take-take, drop-append-le, drop_at}
 use borrow.Author.Tests.{eq-eqb}
-use Rattle.walk.specs.Walk.{Answer, wires, refused, Move, refuse, along, State, join, least, begin, begun, choose, turn, move, run, walk}
+use Rattle.compress.specs.Wires.{uses_of}
+use Rattle.walk.specs.Walk.{Answer, wires, refused, Move, refuse, along, State, least, begin, begun, choose, turn, move, run, walk}
 use Rattle.walk.specs.lists.Members.{count, del, sits, at}
 use Rattle.walk.proofs.Counts.{took, count_all}
 use Rattle.walk.proofs.Buckets.{least_is, move_on}
@@ -96,6 +97,7 @@ module _ (made : List ℕ) (from taken u : ℕ) (le : from ≤ taken) (lt : take
 pub wire_joined : (made : List ℕ) (from taken : ℕ) → from ≤ taken → take from made ++ drop from (take taken made) ≡ take taken made
 wire_joined made from taken le = ap (λ (l : List ℕ). l ++ drop from (take taken made)) (sym (take-take from taken made le)) ∙ take-append-drop from (take taken made)
 
-pub join_snoc : (ws : List (List ℕ)) (w : List ℕ) → join (ws ++ (w ∷ [])) ≡ join ws ++ w
-join_snoc [] w = append-nil w
-join_snoc (v ∷ ws) w = ap (λ (l : List ℕ). v ++ l) (join_snoc ws w) ∙ sym (append_assoc v (join ws) w)
+pub uses_snoc : (ws : List (List ℕ)) (w : List ℕ) → uses_of (ws ++ (w ∷ [])) ≡ uses_of ws ++ w
+unfolding uses_of
+uses_snoc [] w = append-nil w
+uses_snoc (v ∷ ws) w = ap (λ (l : List ℕ). v ++ l) (uses_snoc ws w) ∙ sym (append_assoc v (uses_of ws) w)

@@ -12,13 +12,8 @@ use Rattle.walk.specs.declared.Walked.{Walked}
 use Rattle.std.proofs.Common.{Ok, Err}
 use Rattle.compress.specs.declared.Refusal.{Refusal}
 use Rattle.walk.specs.lists.Ends.{front_of, back_of, marked_of, Sound}
-use Rattle.walk.specs.Walk.{Answer, join, walk}
+use Rattle.walk.specs.Walk.{Answer, walk}
 use Rattle.walk.specs.Answered.{Traced, leaves_walk, walk_outcome}
-
-pub uses_joined : (ws : List (List ℕ)) → uses_of ws ≡ join ws
-unfolding uses_of
-uses_joined [] = refl
-uses_joined (w ∷ ws) = ap (λ (x : List ℕ). w ++ x) (uses_joined ws)
 
 lengths_mapped : (ws : List (List ℕ)) → lengths_of ws ≡ map length ws
 unfolding lengths_of
@@ -55,7 +50,7 @@ module _ {en ds ms us : List ℕ} {edges : ℕ} (S : Sound en ds edges ms us) (m
   copies_left out ls eu el =
       let m = T.0 in
       let ws = m.ws in
-      let u : uses_of ws ≡ take w.uses made = uses_joined ws ∙ m.joined in
+      let u : uses_of ws ≡ take w.uses made = m.joined in
       let lu : length (uses_of ws) ≡ w.uses = rw u (length-take-le w.uses made (omega (arith, m.long_made, T.1, S.few))) in
       let h : lengths_of ws ≡ take w.wires sizes = lengths_mapped ws ∙ m.sized in
       let lh : length (lengths_of ws) ≡ w.wires = length_lengths ws ∙ m.count in

@@ -10,11 +10,13 @@ use lib.ListN.{length, get_or, length-append, get_or-append}
 use lib.Seq.{get_or_at}
 use lib.Dec.{eqb}
 use borrow.Author.Tests.{eqb-true, eqb-false, eq-eqb, ne_eqb}
-use Rattle.walk.specs.Walk.{Answer, wires, refused, Move, finish, refuse, fresh, along, State, join, side, least, begin, begun, choose, closed, gone, turn, move, run, walk}
+use Rattle.compress.specs.Wires.{uses_of}
+use Rattle.rows.proofs.wires.Indexed.{closed_by}
+use Rattle.walk.specs.Walk.{Answer, wires, refused, Move, finish, refuse, fresh, along, State, side, least, begin, begun, choose, closed, gone, turn, move, run, walk}
 use Rattle.walk.specs.lists.Members.{count, del, sits, at}
 use Rattle.walk.specs.Claim.{Wire, out, into, Walks}
 use Rattle.walk.proofs.lists.Counts.{bit, count_cons, count_append}
-use Rattle.walk.proofs.Counts.{count_join, took, passes, count_all, snoc-all, least_has}
+use Rattle.walk.proofs.Counts.{count_uses, took, passes, count_all, snoc-all, least_has}
 
 -- Every vertex is balanced.
 abbrev pub Even : (ℕ → ℕ) → (ℕ → ℕ) → List ℕ → Type 0
@@ -77,8 +79,7 @@ part_one front back s u e = record {
 part_closed : (front back : ℕ → ℕ) (s u : ℕ) (w : List ℕ) → Part front back s u w → back u ≡ s → Wire front back w
 part_closed front back s u w p e = record {
   some = p.some;
-  joined = p.joined;
-  closed = λ i h. ap back (p.final i h) ∙ e ∙ sym p.first;
+  closed = closed_by front back w p.joined (λ i h. ap back (p.final i h) ∙ e ∙ sym p.first);
   early = λ i h g. p.early i h (g ∙ p.first);
 }
 
@@ -113,7 +114,7 @@ part_on front back s u x w p d e = record {
 
 pub record Done (front back : ℕ → ℕ) (B : Type 0) (T : (ℕ → Bool) → ℕ) (ws : List (List ℕ)) : Type 0 where
   pub even : B
-  pub same : (q : ℕ → Bool) → count q (join ws) ≡ T q
+  pub same : (q : ℕ → Bool) → count q (uses_of ws) ≡ T q
   pub all : (i : ℕ) → i < length ws → Wire front back (get_or ws i [])
 
 pub record Stop (B S : Type 0) (c : ℕ) : Type 0 where
@@ -175,7 +176,7 @@ module _ (front back : ℕ → ℕ) (v n : ℕ) (l : List ℕ) (h : n < out fron
 
 module _ (front back : ℕ → ℕ) (marked : ℕ → Bool) where
   abbrev Total : State → (ℕ → Bool) → ℕ
-  Total st q = count q (join st.done) + (count q st.wire + count q st.rest)
+  Total st q = count q (uses_of st.done) + (count q st.wire + count q st.rest)
 
   abbrev KnownAt : State → Answer → Type 0
   KnownAt st a = Known front back (Bal front back st.start (back st.last) st.rest) (Small front st.rest) (Total st) a
@@ -205,7 +206,7 @@ module _ (front back : ℕ → ℕ) (marked : ℕ → Bool) where
   begun_good v l ws h m = record { part = part_one front back v _ (front_is front back v _ l (final_index v l h)); made = m }
 
   begun_known : (v : ℕ) (l : List ℕ) (ws : List (List ℕ)) → 0 < out front v l → (a : Answer) → KnownAt (begun front v l ws) a
-      → Known front back (Even front back l) (Small front l) (λ q. count q (join ws) + count q l) a
+      → Known front back (Even front back l) (Small front l) (λ q. count q (uses_of ws) + count q l) a
   begun_known v l ws h a r =
       let k = final_index v l h in
       lift front back (anew front back v _ l k) (anew⁻¹ front back v _ l k) (still_small front back v _ l k)
@@ -237,7 +238,7 @@ module _ (front back : ℕ → ℕ) (marked : ℕ → Bool) where
       → KnownAt (begun front v st.rest (closed st)) a → KnownAt st a
   fresh_known v st e h a r =
       lift front back (bal_even st.start (back st.last) st.rest e) (even_bal st.start (back st.last) st.rest e) (λ s. s)
-      (λ q. omega (arith, count_join q st.done st.wire)) a (begun_known v st.rest (closed st) h a r)
+      (λ q. omega (arith, count_uses q st.done st.wire)) a (begun_known v st.rest (closed st) h a r)
 
   -- a wire that goes on
   gone_good : (n : ℕ) (st : State) → back st.last ≢ st.start → n < out front (back st.last) st.rest → Good st
@@ -259,7 +260,7 @@ module _ (front back : ℕ → ℕ) (marked : ℕ → Bool) where
   run_known zero m st h w g = absurd (not-suc-le-zero h)
   run_known (suc k) finish st h w g = record {
     even = even_bal st.start (back st.last) st.rest w.0 (λ v. omega (arith, ap (count (sits front v)) w.1, ap (count (sits back v)) w.1));
-    same = λ q. omega (arith, count_join q st.done st.wire, ap (count q) w.1);
+    same = λ q. omega (arith, count_uses q st.done st.wire, ap (count q) w.1);
     all = made_more st g w.0;
   }
   run_known (suc k) (refuse c) st h w g = record {
@@ -278,7 +279,7 @@ module _ (front back : ℕ → ℕ) (marked : ℕ → Bool) where
       (omega (arith, shorter front back (back st.last) n st.rest w.1)) (says next) (gone_good n st w.0 w.1 g))
 
   pub walk_known : (us : List ℕ) → Known front back (Even front back us) (Small front us) (λ q. count q us) (walk front back marked us)
-  unfolding walk
+  unfolding walk uses_of
   walk_known [] = record { even = λ v. refl; same = λ q. refl; all = λ i h. absurd (not-suc-le-zero h) }
   walk_known (x ∷ l) =
       let us : List ℕ = x ∷ l in

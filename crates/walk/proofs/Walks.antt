@@ -9,7 +9,7 @@ use mathlib.Core.Bool.{Bool, true, false}
 use mathlib.Core.List.{List, [], ◌∷◌, ◌++◌, map}
 use lib.ListN.{length, take, drop, get_or, set, length-append, length-set, length-drop, get_or-eq_default}
 use lib.Seq.{length-take-le, take-suc-set, take-set-le, get_or-set_other}
-use Rattle.walk.specs.Walk.{refuse, along, side, join, choose, walk}
+use Rattle.walk.specs.Walk.{exactly_one, refuse, along, side, choose, walk}
 use Rattle.walk.specs.lists.Members.{count, del, sits, at}
 use Rattle.walk.proofs.Buckets.{all_empty}
 use Rattle.std.proofs.lemmas.Bool.{cases_lt}
@@ -18,11 +18,11 @@ use Rattle.std.proofs.Common.{⊎_elim, Option, Some, None, Ok, Err, IsSome, unw
 use Rattle.compress.specs.declared.Refusal.{Refusal}
 use Rattle.compress.specs.declared.Refusal.TheVariants.{DeadEnd, TooManyUses}
 use Rattle.walk.specs.lists.Lists.{entry_of, Lists, Lowest}
-use Rattle.walk.specs.step.Arrival.{exactly_one, Went, absent, empty, many, one, second, first}
-use Rattle.compress.specs.Wires.{total}
+use Rattle.walk.specs.step.Arrival.{Went, absent, empty, many, one, second, first}
+use Rattle.compress.specs.Wires.{uses_of, total}
 use Rattle.walk.specs.Answered.{Traced}
 use Rattle.walk.proofs.lists.Chains.{chain_none, node, entry_some, lists_last, lists_first, two, one_only, three}
-use Rattle.walk.proofs.Steps.{going, after, after_walk, after_nil, going_refused, going_along, going_closed, after_fresh, shorter, wire_more, wire_first, wire_joined, join_snoc}
+use Rattle.walk.proofs.Steps.{going, after, after_walk, after_nil, going_refused, going_along, going_closed, after_fresh, shorter, wire_more, wire_first, wire_joined, uses_snoc}
 
 side_second : (a b : Bool) → exactly_one a b ≡ false → side a b ≡ 1
 side_second true true e = refl
@@ -42,10 +42,10 @@ many_refused marked m (x ∷ []) h = absurd (omega arith)
 many_refused marked m (x ∷ y ∷ []) h = absurd (omega arith)
 many_refused marked m (x ∷ y ∷ z ∷ b) h = refl
 
-total_lengths : (ws : List (List ℕ)) → total (map length ws) ≡ length (join ws)
-unfolding total
+total_lengths : (ws : List (List ℕ)) → total (map length ws) ≡ length (uses_of ws)
+unfolding total uses_of
 total_lengths [] = refl
-total_lengths (w ∷ ws) = omega (arith, total_lengths ws, length-append w (join ws))
+total_lengths (w ∷ ws) = omega (arith, total_lengths ws, length-append w (uses_of ws))
 
 module _ (front back : ℕ → ℕ) (marked : ℕ → Bool) (us : List ℕ) where
   -- between two wires: n are made, of taken uses
@@ -60,7 +60,7 @@ module _ (front back : ℕ → ℕ) (marked : ℕ → Bool) (us : List ℕ) wher
     pub count_is : length rest + taken ≡ length us
     pub few : n ≤ taken
     pub n_is : length ws ≡ n
-    pub joined : join ws ≡ take taken made
+    pub joined : uses_of ws ≡ take taken made
     pub sized : map length ws ≡ take n sizes
     pub to : after front back marked (length rest) rest ws ≡ walk front back marked us
 
@@ -77,7 +77,7 @@ module _ (front back : ℕ → ℕ) (marked : ℕ → Bool) (us : List ℕ) wher
     pub from_lt : from < taken
     pub few : n ≤ from
     pub n_is : length ws ≡ n
-    pub joined : join ws ≡ take from made
+    pub joined : uses_of ws ≡ take from made
     pub sized : map length ws ≡ take n sizes
     pub place : ℕ
     pub place_lt : place < length us
@@ -86,6 +86,7 @@ module _ (front back : ℕ → ℕ) (marked : ℕ → Bool) (us : List ℕ) wher
 
 module _ {front back : ℕ → ℕ} {marked : ℕ → Bool} {us : List ℕ} where
   pub between_start : {hd nx made sizes : List ℕ} → Lists front us (length us) hd nx us → length made ≡ 1024 → length sizes ≡ 1024 → Between front back marked us hd nx made sizes 0 0 0
+  unfolding uses_of
   between_start L lm ls = record {
     rest = us;
     ws = [];
@@ -283,7 +284,7 @@ module _ {front back : ℕ → ℕ} {marked : ℕ → Bool} {us : List ℕ} wher
           count_is = A.count_is;
           few = omega (arith, A.few, A.from_lt);
           n_is = length-append A.ws (wire ∷ []) ∙ omega (arith, A.n_is);
-          joined = join_snoc A.ws wire ∙ ap (λ (l : List ℕ). l ++ wire) A.joined ∙ wire_joined made from taken (omega (arith, A.from_lt));
+          joined = uses_snoc A.ws wire ∙ ap (λ (l : List ℕ). l ++ wire) A.joined ∙ wire_joined made from taken (omega (arith, A.from_lt));
           sized = map-append length A.ws (wire ∷ []) ∙ ap (λ (j : ℕ). map length A.ws ++ (j ∷ [])) lw ∙ ap (λ (l : List ℕ). l ++ ((taken - from) ∷ [])) A.sized
               ∙ sym (ap (λ (j : ℕ). take j (set sizes n (taken - from))) (add-one n) ∙ take-suc-set sizes n (taken - from) n_lt);
           to = sym (going_closed front back marked start last A.rest wire A.ws (length A.rest) e) ∙ A.to;

@@ -7,7 +7,7 @@ use Rattle.compress.specs.Said as said
 use Rattle.compress.specs.Wires.{total, uses_of, lengths_of, over}
 use Rattle.walk.specs.declared.lists.AllEdges.{AllEdges}
 use Rattle.walk.specs.lists.Ends.{front_of, back_of, marked_of}
-use Rattle.walk.specs.Walk.{Answer, wires, refused, join, walk}
+use Rattle.walk.specs.Walk.{Answer, wires, refused, walk}
 use Rattle.walk.specs.declared.Walked.{Walked}
 
 -- The walk of the uses us, off the lent tables.
@@ -23,7 +23,7 @@ pub record Made (a : Answer) (made sizes : List ℕ) (n t : ℕ) : Type 0 where
   pub ws : List (List ℕ)
   pub is : a ≡ wires ws
   pub count : length ws ≡ n
-  pub joined : join ws ≡ take t made
+  pub joined : uses_of ws ≡ take t made
   pub sized : map length ws ≡ take n sizes
   pub summed : total (take n sizes) ≡ t
   pub few : n ≤ t

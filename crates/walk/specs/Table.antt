@@ -1,13 +1,9 @@
 -- The walk of a split as document 01 says it, over a table that holds the list of each vertex. Definitions only.
 -- It is the source's `create_vemap` and `construct_boundaries`, with the number of a refusal where the source panics.
 use Rattle.std.specs.Prelude.{ℕ, zero, suc, ◌-◌, Bool, true, false, List, [], ◌∷◌, ◌++◌, length, get_or, eqb}
+use Rattle.compress.specs.Records.{pick}
 use Rattle.walk.specs.lists.Members.{without}
 use Rattle.walk.specs.Walk.{Answer, wires, refused, Move, finish, refuse, fresh, along, side}
-
--- the first where a test holds, else the second
-abbrev pub pick : {A : Type 0} → Bool → A → A → A
-pick true a b = a
-pick false a b = b
 
 -- ---- the table
 

@@ -5,7 +5,7 @@ ghost use Rattle.std.specs.Prelude.{◌≡◌, ℕ, ◌+◌, ◌-◌, ◌/◌, �
 ghost use Rattle.walk.specs.lists.Ends.{end_of, front_in, back_in, EndsIn};
 ghost use Rattle.walk.specs.lists.Lists.{place_of, list_of, head_at, entry_of, heads_after, nexts_after, Tables, Lowest};
 
-use compress::Edge;
+use compress::{Edge, NUMBERS_PER_EDGE};
 use rows::tables::Table;
 
 // The edges of a walk: those of the lent table, and from its count on the pairs of the divisor. Nothing is checked of them here.
@@ -26,7 +26,7 @@ impl AllEdges<'_, '_> {
     {
         let edges = self.lent.count;
         if e < edges {
-            self.lent.numbers[e * 4 + j]
+            self.lent.numbers[e * NUMBERS_PER_EDGE + j]
         } else {
             self.divisor[(e - edges) * 2 + j]
         }

@@ -4,7 +4,8 @@ ghost use Rattle.std.specs.Prelude.{◌≡◌, ℕ, ◌/◌, ◌≤◌, ◌<◌,
 ghost use Rattle.compress.specs.Wires.{UsesBelow};
 ghost use Rattle.walk.specs.lists.Ends.{marked_of};
 ghost use Rattle.walk.specs.lists.Lists.{Tables};
-ghost use Rattle.walk.specs.step.Arrival.{exactly_one, Went};
+ghost use Rattle.walk.specs.Walk.{exactly_one};
+ghost use Rattle.walk.specs.step.Arrival.{Went};
 
 use crate::lists::UseLists;
 use compress::Refusal;

@@ -16,7 +16,7 @@ use Rattle.compress.specs.Refusals.{refusal_number}
 use Rattle.compress.specs.Said.{result, none, refused}
 use Rattle.compress.proofs.Refused.{number_above}
 use Rattle.checks.proofs.Accepted.{passed}
-use Rattle.wire_kinds.specs.Kinds.{type_at, is_open, is_wanted, wanted_below, sort_cause, unsorted, sort_wires}
+use Rattle.wire_kinds.specs.Kinds.{floats_per_wire, type_at, is_open, is_wanted, wanted_below, sort_cause, unsorted, sort_wires}
 
 -- ---- the numbers gathered from the wires below i: those of the open ones, `at` of them, and those of the closed ones
 pub record Gathering (fs : List Float) (i at : ℕ) (os cs : List ℕ) : Type 0 where
@@ -52,12 +52,12 @@ module _ (fs : List Float) (i at : ℕ) (os cs : List ℕ) (G : Gathering fs i a
       }
 
 -- ---- causes
-pub sort_accepted : (fs : List Float) (n : ℕ) → sort_cause fs n ≡ 0 → (n ≤ 64) × (n * 5 ≤ length fs)
+pub sort_accepted : (fs : List Float) (n : ℕ) → sort_cause fs n ≡ 0 → (n ≤ 64) × (n * floats_per_wire ≤ length fs)
 unfolding sort_cause
 sort_accepted fs n e =
     let a = passed (ltb 64 n) _ e in
-    let b = passed (ltb (length fs) (n * 5)) _ a.1 in
-    (ltb-false 64 n a.0, ltb-false (length fs) (n * 5) b.0)
+    let b = passed (ltb (length fs) (n * floats_per_wire)) _ a.1 in
+    (ltb-false 64 n a.0, ltb-false (length fs) (n * floats_per_wire) b.0)
 
 -- ---- the ways out
 module _ (fs : List Float) (n : ℕ) (os cs : List ℕ) where

@@ -2,13 +2,13 @@
 use Rattle.std.specs.Prelude.{Bool, true, false, not, List, [], ◌∷◌, ◌++◌, ℕ, zero, suc, ◌+◌, ◌*◌, eqb, ltb, length, get_or, Float}
 use Rattle.std.specs.Float.{binary64, nan}
 use Rattle.std.specs.Float.Ieee.{lt, of_bits}
+use Rattle.compress.specs.Constants.{zero64}
 use Rattle.floats.specs.Exact.{distance2_uv}
 use Rattle.compress.specs.declared.Uv.{Uv}
 use Rattle.compress.specs.Records.{pick}
-use Rattle.compress.specs.Said.{Said, result, none, refused, refused_or}
+use Rattle.compress.specs.Said.{Said, result, none, refused, cause_or, refused_or}
 use Rattle.compress.specs.Wires.{over}
 use Rattle.checks.specs.Causes.{lower_of, lowest_of, float_cause, uv_cause}
-use Rattle.compress.specs.Choice.{zero64}
 use Rattle.wire_kinds.specs.declared.BoundaryType.{BoundaryType}
 use Rattle.wire_kinds.specs.declared.BoundaryType.TheVariants.{Positive, Negative, NotClosed}
 use Rattle.wire_kinds.specs.declared.Ends.{Ends}
@@ -38,20 +38,24 @@ boundary_number NotClosed = 2
 
 -- ---- the sorting of wires: a row of five floats for each, first point, last point and area
 
+-- how many floats a wire has in the sorting: u, v of its first and of its last end, and its area
+abbrev pub floats_per_wire : ℕ
+floats_per_wire = 5
+
 abbrev pub first_point : List Float → ℕ → Uv
-first_point fs i = record { u = get_or fs (i * 5) nan; v = get_or fs (i * 5 + 1) nan }
+first_point fs i = record { u = get_or fs (i * floats_per_wire) nan; v = get_or fs (i * floats_per_wire + 1) nan }
 
 abbrev pub last_point : List Float → ℕ → Uv
-last_point fs i = record { u = get_or fs (i * 5 + 2) nan; v = get_or fs (i * 5 + 3) nan }
+last_point fs i = record { u = get_or fs (i * floats_per_wire + 2) nan; v = get_or fs (i * floats_per_wire + 3) nan }
 
 abbrev pub ends_at : List Float → ℕ → Ends
-ends_at fs i = record { first = first_point fs i; last = last_point fs i; area = get_or fs (i * 5 + 4) nan }
+ends_at fs i = record { first = first_point fs i; last = last_point fs i; area = get_or fs (i * floats_per_wire + 4) nan }
 
 unfoldable pub type_at : List Float → ℕ → BoundaryType
-type_at fs i = boundary_type (first_point fs i) (last_point fs i) (get_or fs (i * 5 + 4) nan)
+type_at fs i = boundary_type (first_point fs i) (last_point fs i) (get_or fs (i * floats_per_wire + 4) nan)
 
 unfoldable pub type_cause_at : List Float → ℕ → ℕ
-type_cause_at fs i = kind_cause_of (first_point fs i) (last_point fs i) (get_or fs (i * 5 + 4) nan)
+type_cause_at fs i = kind_cause_of (first_point fs i) (last_point fs i) (get_or fs (i * floats_per_wire + 4) nan)
 
 abbrev pub is_open : BoundaryType → Bool
 is_open Positive = false
@@ -71,7 +75,7 @@ wanted_below fs w zero = []
 wanted_below fs w (suc n) = wanted_below fs w n ++ pick (is_wanted fs w n) (n ∷ []) []
 
 unfoldable pub sort_cause : List Float → ℕ → ℕ
-sort_cause fs n = pick (ltb 64 n) 1 (pick (ltb (length fs) (n * 5)) 1 (lowest_of (type_cause_at fs) n))
+sort_cause fs n = pick (ltb 64 n) 1 (pick (ltb (length fs) (n * floats_per_wire)) 1 (lowest_of (type_cause_at fs) n))
 
 -- the answer, with the count of closed wires, and the contents of the two lent slices
 pub record SortOutcome : Type 0 where
@@ -95,10 +99,7 @@ sort_checked found rest os cs =
     (pick (ltb (length cs) (length rest)) (unsorted (refused 6) os cs) (sorted_into found rest os cs)))
     (unsorted none os cs)
 
-abbrev pub cause_or : ℕ → List ℕ → List ℕ → SortOutcome → SortOutcome
-cause_or zero os cs o = o
-cause_or (suc n) os cs o = unsorted (refused (suc n)) os cs
-
 unfoldable pub sort_wires : List Float → ℕ → List ℕ → List ℕ → SortOutcome
 sort_wires fs n os cs =
-    cause_or (sort_cause fs n) os cs (sort_checked (wanted_below fs true n) (wanted_below fs false n) os cs)
+    cause_or (sort_cause fs n) (λ k. unsorted (refused k) os cs)
+    (sort_checked (wanted_below fs true n) (wanted_below fs false n) os cs)

@@ -4,7 +4,7 @@
 ghost use Rattle.std.specs.Prelude.{◌≡◌, true, false, ◌+◌, ◌-◌, ◌*◌, ◌≤◌, length, take};
 ghost use Rattle.compress.specs.Refusals.{cause_of};
 ghost use Rattle.compress.specs.Said.{said_of, said_if};
-ghost use Rattle.wire_kinds.specs.Kinds.{boundary_number, is_closed, boundary_type, kind_cause_of, boundary_type_said, ends_at, type_at, is_open, wanted_below, sort_cause, unsorted, sort_wires};
+ghost use Rattle.wire_kinds.specs.Kinds.{floats_per_wire, boundary_number, is_closed, boundary_type, kind_cause_of, boundary_type_said, ends_at, type_at, is_open, wanted_below, sort_cause, unsorted, sort_wires};
 
 use compress::{Checked, Refusal, Uv};
 
@@ -80,7 +80,10 @@ pub fn boundary_type(a: Uv, b: Uv, area: f64) -> Result<BoundaryType, Refusal>
 
 // ---- sorting of wires
 
-// The ends of wires, as a host lends them: five floats each, and how many wires they are said to be. No trait over these rows, those of cuts and those
+// How many floats a wire has: u, v of its first and of its last end, and its area.
+const FLOATS_PER_WIRE: usize = 5;
+
+// The ends of wires, as a host lends them: a row of floats each, and how many wires they are said to be. No trait over these rows, those of cuts and those
 // of a divisor: a row has five floats, four, or two and a number in a second slice, each has its own causes, and `checks::lowest_cause` is the loop of all. Nor a
 // `rows::tables::Row`, which has numbers in each row, is written too, and is one of at most 4,096.
 #[derive(Clone, Copy)]
@@ -92,11 +95,11 @@ pub struct LentEnds<'a> {
 impl LentEnds<'_> {
     // The wire of row i.
     fn at(&self, i: usize) -> Ends
-        requires { i * 5 + 5 ≤ length self.now.floats.now }
+        requires { i * floats_per_wire + floats_per_wire ≤ length self.now.floats.now }
         ensures { result ≡ ends_at self.now.floats.now i }
     {
         let floats = self.floats;
-        let a = i * 5;
+        let a = i * FLOATS_PER_WIRE;
         Ends {
             first: Uv::read(floats, a),
             last: Uv::read(floats, a + 2),
@@ -108,7 +111,7 @@ impl LentEnds<'_> {
     fn cause(&self) -> Checked
         ensures { cause_of result ≡ sort_cause self.now.floats.now self.now.count }
     {
-        if self.count > 64 || self.floats.len() < self.count * 5 {
+        if self.count > 64 || self.floats.len() < self.count * FLOATS_PER_WIRE {
             return Err(Refusal::Malformed);
         }
         checks::lowest_cause(self.count, |i| kind_cause(self.at(i)))
@@ -116,7 +119,7 @@ impl LentEnds<'_> {
 
     // Wire i is open.
     fn is_open(&self, i: usize) -> bool
-        requires { i * 5 + 5 ≤ length self.now.floats.now }
+        requires { i * floats_per_wire + floats_per_wire ≤ length self.now.floats.now }
         ensures { result ≡ is_open (type_at self.now.floats.now i) }
     {
         kind_of(self.at(i)) == BoundaryType::NotClosed
@@ -124,7 +127,7 @@ impl LentEnds<'_> {
 
     // The numbers of the open wires, and of the closed ones, both in order, to the front of their slices; how many are open.
     fn gather(&self, opens: &mut [u32], closed: &mut [u32]) -> usize
-        requires wires_in { (self.now.count ≤ 64) × (self.now.count * 5 ≤ length self.now.floats.now) }
+        requires wires_in { (self.now.count ≤ 64) × (self.now.count * floats_per_wire ≤ length self.now.floats.now) }
         requires room { (self.now.count ≤ length opens.old) × (self.now.count ≤ length closed.old) }
         ensures at_most { result ≤ self.now.count }
         ensures open_count { result ≡ length (wanted_below self.now.floats.now true self.now.count) }

@@ -1,34 +1,11 @@
-use Rattle.std.proofs.Common.{cond, Bool, true, false, refl, ap, ◌≡◌, ◌∙◌, min, is_lt, int_cmp, ℤ, pos, get_or, [], ◌∷◌, ℕ, ltb, Less, Greater, Equal}
+use Rattle.std.proofs.Common.{cond, Bool, true, false, refl, ap, ◌≡◌, ◌∙◌, min, is_lt, int_cmp, ℕ, ltb, Less, Greater, Equal}
 use Rattle.std.proofs.Common.{arith}
 use borrow.Author.Tests.{ltb-true, ltb-false}
 use Rattle.compress.specs.declared.Refusal.{Refusal}
-use Rattle.compress.specs.declared.Refusal.TheVariants.{Malformed, VertexNumber, EdgeNumber, NotSized, OutOfRange, NoRoom, PendingVertex, PastEnd, OddDivisor, RepeatedVertex, DeadEnd, TooManyUses, EmptyList, SeveralCuts, EmptyOpenWire}
 use Rattle.compress.specs.Refusals.{refusal_number}
+use Rattle.compress.proofs.Refused.{rank, ranked}
 use Rattle.checks.proofs.Lowest.{lower_first, lower_last, lower_refusals}
 use Rattle.checks.proofs.lower.Goals as goal
-
--- the numbers by which refusals are ordered
-abbrev rank : Refusal → ℤ
-rank z =
-    get_or (pos 1 ∷ pos 2 ∷ pos 3 ∷ pos 4 ∷ pos 5 ∷ pos 6 ∷ pos 7 ∷ pos 8 ∷ pos 9 ∷ pos 10 ∷ pos 11 ∷ pos 12 ∷ pos 13 ∷ pos 14 ∷ pos 15 ∷ [])
-    (denote.Enum.Declared.tag_of Rattle.compress.specs.contracts.Refusal.the_type z) (pos 0)
-
-ranked : (z : Refusal) → rank z ≡ pos (refusal_number z)
-ranked Malformed = refl
-ranked VertexNumber = refl
-ranked EdgeNumber = refl
-ranked NotSized = refl
-ranked OutOfRange = refl
-ranked NoRoom = refl
-ranked PendingVertex = refl
-ranked PastEnd = refl
-ranked OddDivisor = refl
-ranked RepeatedVertex = refl
-ranked DeadEnd = refl
-ranked TooManyUses = refl
-ranked EmptyList = refl
-ranked SeveralCuts = refl
-ranked EmptyOpenWire = refl
 
 least : (x y : Refusal) → refusal_number (cond (is_lt (int_cmp (rank y) (rank x))) y x) ≡ min (refusal_number x) (refusal_number y)
 least x y = rw (ranked y, ranked x) (by (ltb b a) (ltb a b) refl)

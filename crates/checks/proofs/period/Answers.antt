@@ -1,8 +1,7 @@
-use Rattle.floats.proofs.Sized.{zero_bits}
 use Rattle.checks.specs.Causes.{period_cause}
 use Rattle.checks.proofs.Lowest.{lower_same}
 use Rattle.checks.proofs.period.Goals as goal
 
 pub returns : goal.returns
 unfolding period_cause
-returns c = lower_same c.float.ensures (rw (← zero_bits) c.cause_when.ensures) c.lower.ensures
+returns c = lower_same c.float.ensures c.cause_when.ensures c.lower.ensures

@@ -10,7 +10,7 @@ use lib.Dec.{eqb, ltb, eqb-suc-zero}
 use lib.ListN.{length, get_or}
 use lib.Ieee.{Float, nan}
 use Rattle.compress.specs.Records.{pick}
-use Rattle.compress.specs.Rows.{vertex_of}
+use Rattle.compress.specs.Rows.{numbers_per_vertex, floats_per_vertex, vertex_kind_at, vertex_of}
 use Rattle.checks.specs.Causes.{lower_of, lowest_of, kind_cause, point_cause, vertex_cause, vertex_row_cause, pending_row_cause, table_cause, edges_cause, vertices_cause, pending_cause}
 use Rattle.checks.proofs.Accepted.{not_when}
 use Rattle.checks.proofs.Lowest.{lower_first, lower_last, lower_none, lower_swap, lower_join, lowest_both}
@@ -18,18 +18,18 @@ use Rattle.checks.specs.points.Tables.{tables_cause}
 
 module _ (ns : List ℕ) (fs : List Float) (i : ℕ) where
   -- a row without a cause is that of a given vertex
-  pub row_given : lower_of (vertex_row_cause ns fs i) (pending_row_cause ns i) ≡ 0 → get_or ns (i * 3) 0 ≡ 0
+  pub row_given : lower_of (vertex_row_cause ns fs i) (pending_row_cause ns i) ≡ 0 → vertex_kind_at ns i ≡ 0
   unfolding vertex_row_cause
   row_given e =
-      let k = get_or ns (i * 3) 0 in
+      let k = vertex_kind_at ns i in
       let a = lower_none (vertex_row_cause ns fs i) (pending_row_cause ns i) e in
       let h = ltb-false 1 k (not_when (ltb 1 k) 0 (lower_none (kind_cause k) _ a.0).0) in
       let n : k ≡ 1 → ⊥ = eqb-false k 1 (not_when (eqb k 1) 6 a.1) in
       omega arith
 
   -- and has the cause of its point
-  pub row_cause : get_or ns (i * 3) 0 ≡ 0
-      → lower_of (vertex_row_cause ns fs i) (pending_row_cause ns i) ≡ point_cause (get_or fs (i * 7) nan) (get_or fs (i * 7 + 1) nan) (get_or fs (i * 7 + 2) nan)
+  pub row_cause : vertex_kind_at ns i ≡ 0
+      → lower_of (vertex_row_cause ns fs i) (pending_row_cause ns i) ≡ point_cause (get_or fs (i * floats_per_vertex) nan) (get_or fs (i * floats_per_vertex + 1) nan) (get_or fs (i * floats_per_vertex + 2) nan)
   unfolding vertex_row_cause vertex_cause vertex_of
   row_cause k = rw k (lower_last _ ∙ lower_first _ ∙ lower_first _)
 
@@ -47,15 +47,15 @@ by_tests false false false x y z e = e
 
 -- a table by both causes of its rows has the lower of both causes of the table: where it does not lie in its slices, 1
 table_told : (ns : List ℕ) (fs : List Float) (n : ℕ)
-    → table_cause 3 7 (λ i. lower_of (vertex_row_cause ns fs i) (pending_row_cause ns i)) ns fs n ≡ lower_of (vertices_cause ns fs n) (pending_cause ns n)
+    → table_cause numbers_per_vertex floats_per_vertex (λ i. lower_of (vertex_row_cause ns fs i) (pending_row_cause ns i)) ns fs n ≡ lower_of (vertices_cause ns fs n) (pending_cause ns n)
 unfolding vertices_cause pending_cause
 table_told ns fs n =
-    by_tests (ltb 4096 n) (ltb (length ns) (n * 3)) (ltb (length fs) (n * 7)) (lowest_of (vertex_row_cause ns fs) n) (lowest_of (pending_row_cause ns) n) _
+    by_tests (ltb 4096 n) (ltb (length ns) (n * numbers_per_vertex)) (ltb (length fs) (n * floats_per_vertex)) (lowest_of (vertex_row_cause ns fs) n) (lowest_of (pending_row_cause ns) n) _
     (lowest_both (vertex_row_cause ns fs) (pending_row_cause ns) n)
 
 -- the causes of both tables, from what the steps gave
 pub causes_told : (vn : List ℕ) (vf : List Float) (en : List ℕ) (ef : List Float) (v e : ℕ) {a b r : ℕ}
-    → a ≡ table_cause 3 7 (λ i. lower_of (vertex_row_cause vn vf i) (pending_row_cause vn i)) vn vf v → b ≡ edges_cause v en ef e → r ≡ lower_of a b
+    → a ≡ table_cause numbers_per_vertex floats_per_vertex (λ i. lower_of (vertex_row_cause vn vf i) (pending_row_cause vn i)) vn vf v → b ≡ edges_cause v en ef e → r ≡ lower_of a b
     → r ≡ tables_cause vn vf en ef v e
 unfolding tables_cause
 causes_told vn vf en ef v e p q h =

@@ -12,7 +12,7 @@ use lib.Ieee.{Float, lt}
 use Rattle.compress.specs.declared.Edge.{Edge}
 use Rattle.compress.specs.declared.Vertex.{Vertex}
 use Rattle.compress.specs.Records.{pick, forward, front_of, front_at}
-use Rattle.compress.specs.Rows.{HasRow}
+use Rattle.compress.specs.Rows.{HasVertex, HasEdge}
 use Rattle.compress.specs.Said.{result}
 use Rattle.correction.specs.declared.nearest.sound.SoundTables.{SoundTables}
 use Rattle.rows.specs.Held.{edges_in}
@@ -36,12 +36,12 @@ module _ (t : SoundTables) where
       rw r (pick_below (forward u) e.front e.back t.vertices.count a.0 a.1)
 
   -- the row of a use's edge, and of a vertex, lies in its slices
-  pub edge_row : (i : ℕ) → i < t.edges.count → HasRow 4 6 t.edges.numbers.now t.edges.floats.now i
+  pub edge_row : (i : ℕ) → i < t.edges.count → HasEdge t.edges.numbers.now t.edges.floats.now i
   edge_row i h =
       let a = edges_accepted _ _ _ _ t.edges_sound in
       (omega (arith, a.numbers), omega (arith, a.floats))
 
-  pub vertex_row : (i : ℕ) → i < t.vertices.count → HasRow 3 7 t.vertices.numbers.now t.vertices.floats.now i
+  pub vertex_row : (i : ℕ) → i < t.vertices.count → HasVertex t.vertices.numbers.now t.vertices.floats.now i
   vertex_row i h =
       let a = vertices_accepted _ _ _ t.vertices_sound in
       (omega (arith, a.numbers), omega (arith, a.floats))

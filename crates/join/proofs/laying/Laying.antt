@@ -10,7 +10,7 @@ use lib.ListN.{length, get_or, take, drop, length-append, get_or-append}
 use lib.Seq.{drop-drop, take_at, drop_at, drop-append-add, get_or-append-add, length-take-le}
 use lib.Ieee.{Float}
 use Rattle.compress.specs.declared.Edge.{Edge}
-use Rattle.compress.specs.Rows.{edge_at}
+use Rattle.compress.specs.Rows.{numbers_per_edge, floats_per_edge, edge_at}
 use Rattle.compress.specs.Said.{result, none}
 use Rattle.rows.specs.wires.Turn.{turned}
 use Rattle.rows.proofs.wires.Turns.{length_turned, get_or_turned}
@@ -61,7 +61,7 @@ module _ (en : List ℕ) (ef : List Float) where
   append_rows a b ra rb k lt = by_side (dec_lt k (length a))
     where
       Row : ℕ → Type 0
-      Row u = (u / 2 * 4 + 4 ≤ length en) × (u / 2 * 6 + 6 ≤ length ef)
+      Row u = (u / 2 * numbers_per_edge + numbers_per_edge ≤ length en) × (u / 2 * floats_per_edge + floats_per_edge ≤ length ef)
 
       by_side : Dec (k < length a) → Row (get_or (a ++ b) k 0)
       by_side (yes h) = rw (get_or-append a b 0 k h) (ra k h)

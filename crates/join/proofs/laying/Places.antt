@@ -21,6 +21,7 @@ use Rattle.std.specs.Prelude.{Option, Some, None}
 use Rattle.std.specs.List.{AllWithin, HoldsAt}
 use Rattle.std.specs.Option.{MatchOption, is_some, unwrap_or}
 use Rattle.compress.specs.Said.{Said, result, none, refused}
+use Rattle.compress.specs.Rows.{numbers_per_edge, floats_per_edge}
 use Rattle.join.specs.laying.Places.{index_of, wire_index_of, found, found_before, place_in, holder_in}
 use Rattle.join.specs.laying.Steps.{Readable, Lying}
 
@@ -152,7 +153,7 @@ module _ (es : ℕ → Edge) (v : ℕ) (ws : List (List ℕ)) where
 
 -- ---- every wire can be read
 abbrev pub RowLent : List ℕ → List Float → ℕ → Type 0
-RowLent en ef u = (u / 2 * 4 + 4 ≤ length en) × (u / 2 * 6 + 6 ≤ length ef)
+RowLent en ef u = (u / 2 * numbers_per_edge + numbers_per_edge ≤ length en) × (u / 2 * floats_per_edge + floats_per_edge ≤ length ef)
 
 pub wire_rows : (en : List ℕ) (ef : List Float) (w : Wires) → Lying w.uses.now w.lengths.now w.count
     → Readable en ef (take (total (take w.count w.lengths.now)) w.uses.now) → (k : ℕ) → k < length (wires_in w) → Readable en ef (get_or (wires_in w) k [])

@@ -1,10 +1,10 @@
 -- What a join leaves: its answer, and the contents of the uses and the lengths of the new wires. Definitions only.
-use Rattle.std.specs.Prelude.{Option, Result, List, ℕ, length}
+use Rattle.std.specs.Prelude.{Option, Result, List, ℕ, length, take}
 use Rattle.compress.specs.declared.Refusal.{Refusal}
 use Rattle.compress.specs.Records.{pick}
 use Rattle.compress.specs.Said.{Said, result, none, refused, said_of, said_if}
 use Rattle.compress.specs.Shell.{uses_fit}
-use Rattle.compress.specs.Wires.{uses_of, lengths_of, over}
+use Rattle.compress.specs.Wires.{wires_of, uses_of, lengths_of, over}
 use Rattle.rows.specs.declared.lent.WiresMut.{WiresMut}
 
 -- what a call leaves: its answer, and the contents of the uses and the lengths of the new wires
@@ -12,6 +12,10 @@ pub record JoinOutcome : Type 0 where
   pub said : Said ℕ
   pub us : List ℕ
   pub ls : List ℕ
+
+-- the k new wires, as the next call reads them
+abbrev pub wires_left : ℕ → JoinOutcome → List (List ℕ)
+wires_left k o = wires_of o.us (take k o.ls)
 
 -- the answer in document 01's terms: how many uses the new wires have now, "none", or the number of the refusal
 abbrev pub leaves_join : Result (Option ℕ) Refusal → List ℕ → List ℕ → JoinOutcome

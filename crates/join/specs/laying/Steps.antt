@@ -2,11 +2,12 @@
 use Rattle.std.specs.Prelude.{List, ℕ, ◌+◌, ◌*◌, ◌/◌, ◌≤◌, ◌<◌, Option, Some, None, length, get_or, take, Float}
 use Rattle.compress.specs.Said.{Said, result, none}
 use Rattle.compress.specs.Wires.{total}
+use Rattle.compress.specs.Rows.{numbers_per_edge, floats_per_edge}
 use Rattle.join.specs.declared.laying.turned.TurnedWire.{TurnedWire}
 
 -- every use of a wire is of an edge whose row was lent
 abbrev pub Readable : List ℕ → List Float → List ℕ → Type 0
-Readable en ef wire = (k : ℕ) → k < length wire → (get_or wire k 0 / 2 * 4 + 4 ≤ length en) × (get_or wire k 0 / 2 * 6 + 6 ≤ length ef)
+Readable en ef wire = (k : ℕ) → k < length wire → (get_or wire k 0 / 2 * numbers_per_edge + numbers_per_edge ≤ length en) × (get_or wire k 0 / 2 * floats_per_edge + floats_per_edge ≤ length ef)
 
 -- n new wires lie in their two slices
 pub record Lying (us ls : List ℕ) (n : ℕ) : Type 0 where

@@ -1,4 +1,4 @@
--- The cuts of one edge, in rows of four floats, and their causes. Definitions only.
+-- The cuts of one edge, in rows of floats, and their causes. Definitions only.
 use Rattle.std.specs.Prelude.{List, ℕ, ◌+◌, ◌*◌, ltb, Float, length, get_or}
 use Rattle.std.specs.Float.{nan}
 use Rattle.compress.specs.Records.{pick}
@@ -10,12 +10,17 @@ use Rattle.cutting.specs.declared.cut_edge.Halves.{Halves}
 use Rattle.cutting.specs.cut_edge.Cut.{halves_of}
 use Rattle.one_cut.specs.declared.cuts.Cut.{Cut}
 
--- a cut is its parameter and its point: four cells of a row
+-- a cut is its parameter and its point: the cells of a row
+abbrev pub floats_per_cut : ℕ
+floats_per_cut = 4
+
 abbrev pub cut_of : Float → Float → Float → Float → Cut
 cut_of t x y z = record { t = t; point = record { x = x; y = y; z = z } }
 
 abbrev pub cut_at : List Float → ℕ → Cut
-cut_at cs i = cut_of (get_or cs (i * 4) nan) (get_or cs (i * 4 + 1) nan) (get_or cs (i * 4 + 2) nan) (get_or cs (i * 4 + 3) nan)
+cut_at cs i =
+    cut_of (get_or cs (i * floats_per_cut) nan) (get_or cs (i * floats_per_cut + 1) nan) (get_or cs (i * floats_per_cut + 2) nan)
+    (get_or cs (i * floats_per_cut + 3) nan)
 
 -- 5: "cut .. parameter outside its curve's t0 to t1"; 4 for each of its numbers
 unfoldable pub cut_cause : Float → Float → Cut → ℕ
@@ -23,7 +28,7 @@ cut_cause t0 t1 c = lower_of (parameter_cause t0 t1 c.t) (point_cause c.point.x 
 
 -- n cuts: "a count .. is above what was lent", and every cut, used or not
 unfoldable pub cuts_cause : Float → Float → List Float → ℕ → ℕ
-cuts_cause t0 t1 cs n = pick (ltb (length cs) (n * 4)) 1 (lowest_of (λ i. cut_cause t0 t1 (cut_at cs i)) n)
+cuts_cause t0 t1 cs n = pick (ltb (length cs) (n * floats_per_cut)) 1 (lowest_of (λ i. cut_cause t0 t1 (cut_at cs i)) n)
 
 -- the halves of the edge in row i of a table, which is cut at t by vertex n
 abbrev pub halves_at : TableMut Edge → ℕ → Float → ℕ → Halves

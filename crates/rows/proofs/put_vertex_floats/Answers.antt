@@ -2,7 +2,7 @@ use Prim.Native.Nat.{◌*◌}
 use native.Mathlib.Omega.{arith}
 use lib.ListN.{length-set}
 use Rattle.compress.specs.Layout.{put}
-use Rattle.compress.specs.Rows.{vertex_float_layout}
+use Rattle.compress.specs.Rows.{floats_per_vertex, vertex_float_layout}
 use Rattle.compress.proofs.Cells.{run3}
 use Rattle.compress.proofs.Rows.{pending_cells}
 use Rattle.rows.proofs.put_vertex_floats.Goals as goal
@@ -21,4 +21,4 @@ pub returns-in-Pending : goal.returns-in-Pending
 unfolding put vertex_float_layout
 returns-in-Pending c =
     let v = c.in-Pending in
-    rw v.is (pending_cells c.args.floats.now _ (c.args.i * 7) v.curve v.t c.put_curve.ensures)
+    rw v.is (pending_cells c.args.floats.now _ (c.args.i * floats_per_vertex) v.curve v.t c.put_curve.ensures)

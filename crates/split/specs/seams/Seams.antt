@@ -1,18 +1,26 @@
 -- The vertices on the divisor and the seams between them. Definitions only.
 use Rattle.std.specs.Prelude.{Bool, false, ◌||◌, List, [], ◌∷◌, ℕ, ◌+◌, ◌*◌, eqb, Float, get_or}
-use Rattle.std.specs.Float.{binary64, nan}
-use Rattle.std.specs.Float.Ieee.{of_bits}
+use Rattle.std.specs.Float.{nan}
+use Rattle.compress.specs.Constants.{zero64, one64}
 use Rattle.compress.specs.declared.Curve.TheVariants.{Seam}
 use Rattle.compress.specs.declared.Edge.{Edge}
 use Rattle.split.specs.declared.seams.Stop.{Stop}
 
+-- how many floats a vertex on the divisor has, its uv point, and how many a pair of them
+abbrev pub floats_per_stop : ℕ
+floats_per_stop = 2
+
+abbrev pub floats_per_pair : ℕ
+floats_per_pair = 4
+
 abbrev pub stop_at : List ℕ → List Float → ℕ → Stop
-stop_at ds fs i = record { vertex = get_or ds i 0; point = record { u = get_or fs (i * 2) nan; v = get_or fs (i * 2 + 1) nan } }
+stop_at ds fs i =
+    record { vertex = get_or ds i 0; point = record { u = get_or fs (i * floats_per_stop) nan; v = get_or fs (i * floats_per_stop + 1) nan } }
 
 -- "a seam from the first's uv point to the second's on that surface"; its t0, t1 "begin as 0 and 1"
 unfoldable pub seam_of : ℕ → Stop → Stop → Edge
 seam_of surface a b =
-    record { front = a.vertex; back = b.vertex; curve = Seam surface a.point b.point (of_bits binary64 0) (of_bits binary64 0x3ff0_0000_0000_0000) }
+    record { front = a.vertex; back = b.vertex; curve = Seam surface a.point b.point zero64 one64 }
 
 -- "Vertices pair off (first with second, third with fourth; an odd last one makes no edge); each pair is a new edge, appended in that order"
 unfoldable pub seams_of : ℕ → List Stop → List Edge

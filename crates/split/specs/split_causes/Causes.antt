@@ -1,6 +1,7 @@
 -- What a call of the split is lent, and every cause that is found before the walk. Definitions only.
-use Rattle.std.specs.Prelude.{not, List, ℕ, zero, suc, ◌+◌, ◌*◌, ◌/◌, ltb, Float, length, take}
+use Rattle.std.specs.Prelude.{not, List, ℕ, ◌+◌, ◌*◌, ◌/◌, ltb, Float, length, take}
 use Rattle.compress.specs.Records.{pick}
+use Rattle.compress.specs.Said.{cause_or}
 use Rattle.compress.specs.Shell.{edges_fit}
 use Rattle.compress.specs.Wires.{total}
 use Rattle.checks.specs.Causes.{when, lower_of, count_cause, edges_cause, uses_cause}
@@ -96,8 +97,7 @@ split_room_cause l = room_cause l.buffers (split_count l) (l.edges + pairs l)
 
 -- a cause of those that come first, else of those that come next: all numbers of the first are below those of the next, so "the lowest number wins"
 abbrev pub then_cause : ℕ → ℕ → ℕ
-then_cause zero b = b
-then_cause (suc a) b = suc a
+then_cause a b = cause_or a (λ n. n) b
 
 unfoldable pub split_cause : LentSplit → ℕ
 split_cause l =

@@ -10,7 +10,7 @@ use lib.Ieee.{Float}
 use Rattle.compress.specs.declared.Edge.{Edge}
 use Rattle.compress.specs.Records.{closed}
 use Rattle.compress.specs.Layout.{Layout, put, store_from, rows}
-use Rattle.compress.specs.Rows.{edge_at, edge_number_layout, edge_float_layout, vertex_number_layout, vertex_float_layout}
+use Rattle.compress.specs.Rows.{numbers_per_edge, edge_kind_at, edge_at, edge_number_layout, edge_float_layout, vertex_number_layout, vertex_float_layout}
 use Rattle.compress.proofs.Layouts.{store_none, store_append, put_other, rows_none, rows_first, rows_agree, length_rows}
 use Rattle.compress.proofs.Rows.{edge_other, edge_numbers_fit, edge_floats_fit, edge_numbers_stand, edge_floats_stand}
 use Rattle.cutting.specs.cut_edge.Cut.{middle_of, halves_of}
@@ -30,15 +30,15 @@ module _ (b : Bool) (n i m : ℕ) (e : Edge) (en : List ℕ) (ef : List Float) w
           ∙ edge_other en ef i h₀ j (λ q. omega arith)
       by false = refl
 
-  pub kind_past : (j : ℕ) → i < j → j < m → get_or (cut_rows edge_number_layout b n i m e en) (j * 4 + 2) 0 ≡ get_or en (j * 4 + 2) 0
+  pub kind_past : (j : ℕ) → i < j → j < m → edge_kind_at (cut_rows edge_number_layout b n i m e en) j ≡ edge_kind_at en j
   unfolding edge_number_layout
   kind_past j lo hi = by b
     where
-      by : (c : Bool) → get_or (cut_rows edge_number_layout c n i m e en) (j * 4 + 2) 0 ≡ get_or en (j * 4 + 2) 0
+      by : (c : Bool) → edge_kind_at (cut_rows edge_number_layout c n i m e en) j ≡ edge_kind_at en j
       by true =
           let h₀ = (halves_of e (middle_of e.curve) n).old in
-          put_other edge_number_layout edge_numbers_fit 0 (put edge_number_layout en i h₀) m j 2 (j * 4 + 2) (halves_of e (middle_of e.curve) n).new (λ q. omega arith) refl (omega arith)
-          ∙ put_other edge_number_layout edge_numbers_fit 0 en i j 2 (j * 4 + 2) h₀ (λ q. omega arith) refl (omega arith)
+          put_other edge_number_layout edge_numbers_fit 0 (put edge_number_layout en i h₀) m j 2 (j * numbers_per_edge + 2) (halves_of e (middle_of e.curve) n).new (λ q. omega arith) refl (omega arith)
+          ∙ put_other edge_number_layout edge_numbers_fit 0 en i j 2 (j * numbers_per_edge + 2) h₀ (λ q. omega arith) refl (omega arith)
       by false = refl
 
 pub record Adding (n₀ count : ℕ) (vn₀ : List ℕ) (vf₀ : List Float) (en₀ : List ℕ) (ef₀ : List Float)
@@ -51,7 +51,7 @@ pub record Adding (n₀ count : ℕ) (vn₀ : List ℕ) (vf₀ : List Float) (en
   pub same_vf : length vf ≡ length vf₀
   pub same_en : length en ≡ length en₀
   pub same_ef : length ef ≡ length ef₀
-  pub kinds : (j : ℕ) → i ≤ j → j < count → get_or en (j * 4 + 2) 0 < 2
+  pub kinds : (j : ℕ) → i ≤ j → j < count → edge_kind_at en j < 2
   pub to_vn : store_from vertex_number_layout vn n (new_vertices (rows (edge_at en ef) i (count - i))) ≡ store_from vertex_number_layout vn₀ n₀ (new_vertices (rows (edge_at en₀ ef₀) 0 count))
   pub to_vf : store_from vertex_float_layout vf n (new_vertices (rows (edge_at en ef) i (count - i))) ≡ store_from vertex_float_layout vf₀ n₀ (new_vertices (rows (edge_at en₀ ef₀) 0 count))
   pub to_en : left edge_number_layout edge_numbers_fit en n i m (rows (edge_at en ef) i (count - i)) ≡ left edge_number_layout edge_numbers_fit en₀ n₀ 0 count (rows (edge_at en₀ ef₀) 0 count)

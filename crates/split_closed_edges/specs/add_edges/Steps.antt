@@ -4,7 +4,7 @@ use Rattle.compress.specs.declared.Edge.{Edge}
 use Rattle.compress.specs.declared.Vertex.{Vertex}
 use Rattle.compress.specs.Records.{closed}
 use Rattle.compress.specs.Layout.{Layout, put, store, store_from, rows}
-use Rattle.compress.specs.Rows.{edge_at, edge_number_layout, edge_float_layout, vertex_number_layout, vertex_float_layout}
+use Rattle.compress.specs.Rows.{numbers_per_edge, floats_per_edge, numbers_per_vertex, floats_per_vertex, edge_kind_at, edge_at, edge_number_layout, edge_float_layout, vertex_number_layout, vertex_float_layout}
 use Rattle.cutting.specs.cut_edge.Cut.{middle_of, halves_of, pending_of}
 use Rattle.split_closed_edges.specs.add_edges.Add.{next, kept_edges, new_edges, new_vertices, added_to}
 
@@ -26,19 +26,19 @@ closed_count (e ∷ es) = next (closed e) (closed_count es)
 -- a turn that cuts has a row for the vertex n and one for the edge m
 pub record PlaceFor (n m : ℕ) (vn : List ℕ) (vf : List Float) (en : List ℕ) (ef : List Float) : Type 0 where
   pub below : n < 4096
-  pub vertex_numbers : n * 3 + 3 ≤ length vn
-  pub vertex_floats : n * 7 + 7 ≤ length vf
-  pub edge_numbers : m * 4 + 4 ≤ length en
-  pub edge_floats : m * 6 + 6 ≤ length ef
+  pub vertex_numbers : n * numbers_per_vertex + numbers_per_vertex ≤ length vn
+  pub vertex_floats : n * floats_per_vertex + floats_per_vertex ≤ length vf
+  pub edge_numbers : m * numbers_per_edge + numbers_per_edge ≤ length en
+  pub edge_floats : m * floats_per_edge + floats_per_edge ≤ length ef
 
 -- `add_edges` has a row for each vertex and each edge of its result, and the kinds of its edges are known ones
 pub record Addable (n count : ℕ) (vn : List ℕ) (vf : List Float) (en : List ℕ) (ef : List Float) : Type 0 where
   pub below : n + closed_count (rows (edge_at en ef) 0 count) ≤ 4096
-  pub vertex_numbers : (n + closed_count (rows (edge_at en ef) 0 count)) * 3 ≤ length vn
-  pub vertex_floats : (n + closed_count (rows (edge_at en ef) 0 count)) * 7 ≤ length vf
-  pub edge_numbers : (count + closed_count (rows (edge_at en ef) 0 count)) * 4 ≤ length en
-  pub edge_floats : (count + closed_count (rows (edge_at en ef) 0 count)) * 6 ≤ length ef
-  pub kinds : (j : ℕ) → j < count → get_or en (j * 4 + 2) 0 < 2
+  pub vertex_numbers : (n + closed_count (rows (edge_at en ef) 0 count)) * numbers_per_vertex ≤ length vn
+  pub vertex_floats : (n + closed_count (rows (edge_at en ef) 0 count)) * floats_per_vertex ≤ length vf
+  pub edge_numbers : (count + closed_count (rows (edge_at en ef) 0 count)) * numbers_per_edge ≤ length en
+  pub edge_floats : (count + closed_count (rows (edge_at en ef) 0 count)) * floats_per_edge ≤ length ef
+  pub kinds : (j : ℕ) → j < count → edge_kind_at en j < 2
 
 -- the slices after `add_edges`: the edges with their halves, and the new vertices from row n on
 pub record Added (n count : ℕ) (vn : List ℕ) (vf : List Float) (en : List ℕ) (ef : List Float)

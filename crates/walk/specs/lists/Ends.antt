@@ -1,11 +1,12 @@
 -- The front, the back and the mark of a use, off the lent tables, and what the caller has checked of them. Definitions only.
 use Rattle.std.specs.Prelude.{ℕ, ◌+◌, ◌-◌, ◌*◌, ◌/◌, ◌%◌, ◌≤◌, ◌<◌, Bool, true, false, List, length, get_or, ltb}
 use Rattle.walk.specs.declared.lists.AllEdges.{AllEdges}
+use Rattle.compress.specs.Rows.{numbers_per_edge}
 
 -- End j of edge e, 0 its first vertex number and 1 its second. "Fronts and backs are those of the lent edges and of the pairs": a lent edge is a
--- row of four numbers, whose first two are the ends; from number `edges` on, an edge is a pair of vertices of the divisor.
+-- row of numbers, whose first two are the ends; from number `edges` on, an edge is a pair of vertices of the divisor.
 abbrev pub end_in : Bool → List ℕ → List ℕ → ℕ → ℕ → ℕ → ℕ
-end_in true en ds edges e j = get_or en (e * 4 + j) 0
+end_in true en ds edges e j = get_or en (e * numbers_per_edge + j) 0
 end_in false en ds edges e j = get_or ds ((e - edges) * 2 + j) 0
 
 unfoldable pub end_of : List ℕ → List ℕ → ℕ → ℕ → ℕ → ℕ
@@ -24,7 +25,7 @@ marked_of ms u = ltb 1 (get_or ms (u / 2) 0)
 
 -- Edge e is there: a row, or a pair.
 pub record HasEnds (en ds : List ℕ) (edges e : ℕ) : Type 0 where
-  pub row : e < edges → e * 4 + 4 ≤ length en
+  pub row : e < edges → e * numbers_per_edge + numbers_per_edge ≤ length en
   pub pair : edges ≤ e → (e - edges) * 2 + 2 ≤ length ds
 
 -- What the caller has checked: few uses, of edges that are there and have a mark, between vertices that are there.

@@ -5,17 +5,18 @@ use Rattle.walk.specs.lists.Ends.{front_of, back_of, pairs_in}
 use Rattle.walk.specs.Walk.{Answer}
 use Rattle.walk.specs.Walk as walk
 use Rattle.walk.specs.marks.Marks.{new_uses, marked_by}
+use Rattle.compress.specs.Rows.{numbers_per_edge}
 
 -- `edges` rows in en, the uses of the face's wires and of those to be rebuilt, and `pairs` pairs of vertices in ds: few enough, and every number known
 pub record Walkable (en : List ℕ) (edges : ℕ) (face rebuilt ds : List ℕ) (pairs : ℕ) : Type 0 where
   pub few : length rebuilt + pairs * 2 ≤ 1024
   pub face_few : length face ≤ 1024
   pub below : edges + pairs ≤ 4096
-  pub rows : edges * 4 ≤ length en
+  pub rows : edges * numbers_per_edge ≤ length en
   pub paired : length ds ≡ pairs * 2
   pub face_known : (k : ℕ) → k < length face → get_or face k 0 / 2 < edges
   pub rebuilt_known : (k : ℕ) → k < length rebuilt → get_or rebuilt k 0 / 2 < edges
-  pub ends : (e j : ℕ) → e < edges → j < 2 → get_or en (e * 4 + j) 0 < 4096
+  pub ends : (e j : ℕ) → e < edges → j < 2 → get_or en (e * numbers_per_edge + j) 0 < 4096
   pub stops : (k : ℕ) → k < pairs * 2 → get_or ds k 0 < 4096
 
 -- the walk, with fronts and backs off the lent slices

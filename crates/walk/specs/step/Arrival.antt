@@ -2,13 +2,7 @@
 use Rattle.std.specs.Prelude.{ℕ, ◌+◌, ◌≡◌, Bool, true, false, List, get_or, set, Result, Ok, Err}
 use Rattle.compress.specs.declared.Refusal.{Refusal}
 use Rattle.compress.specs.declared.Refusal.TheVariants.{DeadEnd, TooManyUses, EmptyList}
-
--- "Exactly one of current use and first use is marked."
-abbrev pub exactly_one : Bool → Bool → Bool
-exactly_one true true = false
-exactly_one true false = true
-exactly_one false true = true
-exactly_one false false = false
+use Rattle.walk.specs.Walk.{exactly_one}
 
 -- The walk arrives at the vertex v with the use u: what the step is, and what it leaves in the tables; where it takes no use, they stay.
 pub data Went (marked : ℕ → Bool) (us hd nx : List ℕ) (v u : ℕ) (s : Result ℕ Refusal) (hd' nx' : List ℕ) : Type 0 where

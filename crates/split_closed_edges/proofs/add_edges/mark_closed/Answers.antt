@@ -2,8 +2,8 @@ use Rattle.std.proofs.Common.{◌≡◌, ◌≤◌, ◌+◌, ◌*◌, ◌∷◌,
 use Rattle.std.proofs.lemmas.List.{length_push}
 use Rattle.std.proofs.lemmas.Iterator.Consumers.{YieldsList-from_enumerate, YieldsList-turn, YieldsList-end}
 use Rattle.compress.specs.Records.{closed}
-use Rattle.compress.specs.Rows.{edge_at, edge_of}
-use Rattle.split_closed_edges.proofs.add_edges.Quads.{yields_quads, quad_item, numbered_length}
+use Rattle.compress.specs.Rows.{numbers_per_edge, edge_at, edge_of}
+use Rattle.split_closed_edges.proofs.add_edges.NumberRows.{yields_rows, row_item, numbered_length}
 use Rattle.split_closed_edges.proofs.add_edges.Marking.{then_is, next_is, marking_start, marking_turn, marking_done}
 use Rattle.split_closed_edges.proofs.add_edges.mark_closed.Goals as goal
 
@@ -16,8 +16,8 @@ loop-i-preserved c =
     let l = c.loop-i in
     let ns = c.args.edges.now.numbers.now in
     let item : ℕ × Bor (List ℕ) = (c.in-Some.i, c.in-Some.row) in
-    let road = YieldsList-from_enumerate (yields_quads _ (take (c.args.edges.now.count * 4) ns) (cc) (cc)) cc in
-    let q = quad_item ns c.args.edges.now.count _ _ c.requires.1 (YieldsList-turn road l.yielded _ l.yielded_by _ _ item c.in-Some.is c.next.ensures.steps) in
+    let road = YieldsList-from_enumerate (yields_rows _ (take (c.args.edges.now.count * numbers_per_edge) ns) (cc) (cc)) cc in
+    let q = row_item ns c.args.edges.now.count _ _ c.requires.1 (YieldsList-turn road l.yielded _ l.yielded_by _ _ item c.in-Some.is c.next.ensures.steps) in
     let k = length l.yielded in
     let b = eqb (get_or c.in-Some.row.now 0 0) (get_or c.in-Some.row.now 1 0) in
     let same : (fs : List Float) → b ≡ closed (edge_at ns fs k) = λ fs. rw (q.first, q.second) in
@@ -31,6 +31,6 @@ returns c =
     let l = c.loop-i in
     let ns = c.args.edges.now.numbers.now in
     let count = c.args.edges.now.count in
-    let road = YieldsList-from_enumerate (yields_quads _ (take (count * 4) ns) (cc) (cc)) cc in
+    let road = YieldsList-from_enumerate (yields_rows _ (take (count * numbers_per_edge) ns) (cc) (cc)) cc in
     let past : count ≤ length l.yielded = omega (arith, (YieldsList-end road l.yielded _ l.yielded_by _ _ c.in-None.is c.next.ensures.steps).1, numbered_length ns count c.requires.1) in
     marking_done _ _ _ c.requires.2 l.added (length l.yielded) l.m l.invariant past

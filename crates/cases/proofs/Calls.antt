@@ -1,0 +1,30 @@
+-- The closed-edge pass, and then one cut of what it left, told of shells alone.
+-- Assumes nothing.
+use mathlib.Core.Path.{◌≡◌, refl, ◌∙◌}
+use mathlib.Core.List.{List}
+use Prim.Native.Nat.{ℕ}
+use lib.ListN.{get_or}
+use lib.Ieee.{Float}
+use Rattle.compress.specs.declared.Counts.{Counts}
+use Rattle.compress.specs.declared.Edge.{Edge}
+use Rattle.compress.specs.Said.{result}
+use Rattle.compress.specs.Shell.{Lent, load}
+use Rattle.compress.proofs.Loading.{edge_loaded}
+use Rattle.cutting.specs.Contract.{Outcome, next_lent}
+use Rattle.split_closed_edges.specs.Pass.{split_closed_edges}
+use Rattle.split_closed_edges.specs.Contract.{outcome_of}
+use Rattle.split_closed_edges.proofs.Reading.{pass_read}
+use Rattle.one_cut.specs.cuts.Cuts.{cut_at}
+use Rattle.one_cut.specs.Cut.{cut_once}
+use Rattle.one_cut.specs.Contract.{cut_outcome}
+use Rattle.one_cut.proofs.Reading.{cut_few, cut_read}
+
+-- where both calls tell a result, the slices hold the shell of the pass with its edge i cut
+pub pass_then_cut : (l : Lent) (c c' : Counts) (o o' : Outcome) (d : Edge) (i : ℕ) (cs : List Float)
+    → o ≡ outcome_of l → o.said ≡ result c → o' ≡ cut_outcome (next_lent o c l.wires) i cs 1 → o'.said ≡ result c'
+    → load (next_lent o' c' l.wires) ≡ cut_once (split_closed_edges (load l)) i (get_or (split_closed_edges (load l)).edges i d) (cut_at cs 0)
+pass_then_cut l c c' o o' d i cs e p e' p' =
+    let m = next_lent o c l.wires in
+    let q : load m ≡ split_closed_edges (load l) = pass_read l c o e p in
+    let lt = (cut_few m i c' cs 1 o' e' p').1 in
+    rw (← q) (cut_read m i c' cs 1 o' e' p' refl ∙ rw (edge_loaded m d i lt))

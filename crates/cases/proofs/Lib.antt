@@ -1,0 +1,2 @@
+-- Laws of two calls, one after the other.
+pub mod Calls
