@@ -3,18 +3,28 @@
  *
  * The ten calls of libhealing.a, which `rt lib` in crates/healing writes to
  * crates/healing/out. Each has its contract, which is proved, in
- * crates/healing/src; document 01 is the specification.
+ * crates/healing/src; document 01 is the specification. The archive asks for
+ * memcpy, memmove and memset, and for nothing else. This header is C from C89
+ * on, where there is a stdint.h, and C++ from C++98 on.
  *
  * Answers. Every call answers 0 for a result, whose values stand in the
  * places lent for them (the `_out` pointers); -1 for "none"; else the number
  * of a refusal, below. On -1 and on a refusal no byte of what was lent is
- * changed, the `_out` places included.
+ * changed, the `_out` places included. One part of this is not proved: the
+ * proofs know a single NaN, so that a cell which holds one keeps its payload
+ * rests on the runs, which compare every cell by its bits
+ * (docs/DIFFERENCES.md).
  *
  * Slices. A slice is a pointer and a count of elements. The pointer is never
  * null and is aligned for its type, also where the count is 0. A slice that
- * is not const, and a place, overlaps nothing else that is lent. A call keeps
- * no pointer, allocates nothing, and may be made from several threads at once
- * on slices of their own. Its local arrays take at most 40 KiB of stack.
+ * is not const, and a place, overlaps nothing else that is lent; const slices
+ * may overlap each other. A call keeps no pointer, allocates nothing, and may
+ * be made from several threads at once on slices of their own.
+ *
+ * Stack, as measured on x86-64: at most 41 KiB in the pass and in one cut, 39
+ * in the split, 21 in the search, 9 in the join, less than 1 in the others.
+ * Where a dynamic linker looks up memcpy and the like only when they are
+ * first needed, that call took some 3 KiB more.
  *
  * Tables. A table is lent as rows of numbers and rows of floats, and a count
  * of rows:
@@ -29,13 +39,22 @@
  *             reversed; their lengths in a slice beside them
  *   cuts      4 floats: parameter, x, y, z
  *   divisor   a vertex number; 2 floats: u, v
+ *   ends      5 floats: u, v of a wire's first point, u, v of its last point,
+ *             area
  *
  * Cells that a record of its kind does not have are no input and keep what
  * they held, and so do entries past a count or past a result.
  *
+ * Room. A call that adds rows or uses needs places for them behind those that
+ * count; how many stands at each call. A slice may always be longer. Too few
+ * are refused (6), and nothing is changed.
+ *
  * Bounds: 4,096 vertices, 4,096 edges, 64 wires into a call, 1,024 uses in
- * all wires of a call together, 1,024 uses out; each float at most 1.0e15 in
- * size.
+ * all wires of a call together, 1,024 uses out; each float that is lent at
+ * most 1.0e15 in size. The wires that one call is lent count together: in
+ * nearest ends the uses of both stretches; in a join the two open wires and
+ * the new ones, so at most 62 of these; in a split the face's wires and those
+ * to be rebuilt. The wires that a split answers are not bounded by 64.
  */
 #ifndef KAUGRENNA_H
 #define KAUGRENNA_H
@@ -43,62 +62,143 @@
 #include <stddef.h>
 #include <stdint.h>
 
+/* The version of this header: 10,000, 100 and 1 for each of its numbers. */
+#define KAUGRENNA_VERSION 100
+#define KAUGRENNA_VERSION_TEXT "0.1.0"
+
+/* A result, and "none": no result, and nothing is wrong with the input. */
+#define KAUGRENNA_DONE 0
+#define KAUGRENNA_NONE (-1)
+
+/* How many numbers and floats a row has; of a wire in the sorting (`ends`),
+   of a vertex on the divisor (`points`). */
+#define KAUGRENNA_NUMBERS_PER_EDGE 4
+#define KAUGRENNA_FLOATS_PER_EDGE 6
+#define KAUGRENNA_NUMBERS_PER_VERTEX 3
+#define KAUGRENNA_FLOATS_PER_VERTEX 7
+#define KAUGRENNA_FLOATS_PER_CUT 4
+#define KAUGRENNA_FLOATS_PER_STOP 2
+#define KAUGRENNA_FLOATS_PER_WIRE 5
+
+/* The most vertices of a call, and the most edges; the most wires into it;
+   the most uses in all of its wires, and out of it; the largest size of a
+   float that is lent. */
+#define KAUGRENNA_MAX_ROWS 4096
+#define KAUGRENNA_MAX_WIRES 64
+#define KAUGRENNA_MAX_USES 1024
+#define KAUGRENNA_MAX_SIZE 1.0e15
+
+/* The use of an edge below 2^31, against its direction where `reversed` is
+   not 0; the edge of a use; 1 where the use is reversed, else 0. */
+#define KAUGRENNA_USE(edge, reversed) \
+    ((uint32_t)(2u * (uint32_t)(edge) + ((reversed) ? 1u : 0u)))
+#define KAUGRENNA_EDGE(use) ((uint32_t)(use) / 2u)
+#define KAUGRENNA_REVERSED(use) ((int)((uint32_t)(use) % 2u))
+
+/* The kinds of a curve, of a vertex, of a period and of a wire. */
+enum kaugrenna_curve { KAUGRENNA_SPAN = 0, KAUGRENNA_SEAM = 1 };
+enum kaugrenna_vertex { KAUGRENNA_GIVEN = 0, KAUGRENNA_PENDING = 1 };
+enum kaugrenna_period { KAUGRENNA_ABSENT = 0, KAUGRENNA_EVERY = 1 };
+enum kaugrenna_kind {
+    KAUGRENNA_POSITIVE = 0,
+    KAUGRENNA_NEGATIVE = 1,
+    KAUGRENNA_NOT_CLOSED = 2
+};
+
+/*
+ * The refusals; `kaugrenna_text` has a sentence for each. Every input is
+ * checked, used or not, and the lowest number wins; 8, 11, 12 and 13 come
+ * after the others, as first reached. Outside a split 6 comes last of all.
+ */
+enum kaugrenna_refusal {
+    KAUGRENNA_MALFORMED = 1,
+    KAUGRENNA_VERTEX_NUMBER = 2,
+    KAUGRENNA_EDGE_NUMBER = 3,
+    KAUGRENNA_NOT_SIZED = 4,
+    KAUGRENNA_OUT_OF_RANGE = 5,
+    KAUGRENNA_NO_ROOM = 6,
+    KAUGRENNA_PENDING_VERTEX = 7,
+    KAUGRENNA_PAST_END = 8,
+    KAUGRENNA_ODD_DIVISOR = 9,
+    KAUGRENNA_REPEATED_VERTEX = 10,
+    KAUGRENNA_DEAD_END = 11,
+    KAUGRENNA_TOO_MANY_USES = 12,
+    KAUGRENNA_EMPTY_LIST = 13,
+    KAUGRENNA_SEVERAL_CUTS = 14,
+    KAUGRENNA_EMPTY_OPEN_WIRE = 15
+};
+
+/* `inline`, as far as the language has it. */
+#if defined(__cplusplus)
+#define KAUGRENNA_INLINE static inline
+#elif defined(__STDC_VERSION__) && __STDC_VERSION__ >= 199901L
+#define KAUGRENNA_INLINE static inline
+#elif defined(__GNUC__)
+#define KAUGRENNA_INLINE static __inline__
+#else
+#define KAUGRENNA_INLINE static
+#endif
+
+/* What a code says: why a call was turned away, for a refusal. */
+KAUGRENNA_INLINE const char *kaugrenna_text(int32_t code) {
+    switch (code) {
+    case KAUGRENNA_DONE:
+        return "a result stands in the places lent for it";
+    case KAUGRENNA_NONE:
+        return "there is no result, and nothing is wrong with the input";
+    case KAUGRENNA_MALFORMED:
+        return "a count is above its bound or above what was lent, the sum of "
+               "the wire lengths is, or a kind is neither 0 nor 1";
+    case KAUGRENNA_VERTEX_NUMBER:
+        return "a vertex number, in an edge or by itself, is not below the "
+               "vertex count";
+    case KAUGRENNA_EDGE_NUMBER:
+        return "an edge number, in a use or by itself, is not below the edge "
+               "count";
+    case KAUGRENNA_NOT_SIZED:
+        return "a float is not a number, or above 1.0e15 in size";
+    case KAUGRENNA_OUT_OF_RANGE:
+        return "t0 is above t1, a cut or pending parameter is outside its "
+               "curve's range, or a period is not above 0";
+    case KAUGRENNA_NO_ROOM:
+        return "the result passes a bound on a count, or a lent buffer is too "
+               "short for it";
+    case KAUGRENNA_PENDING_VERTEX:
+        return "a vertex lent to nearest ends or to the non-simple search is "
+               "pending";
+    case KAUGRENNA_PAST_END:
+        return "in the non-simple search the second place is past the end";
+    case KAUGRENNA_ODD_DIVISOR:
+        return "the count of vertices on the divisor is odd";
+    case KAUGRENNA_REPEATED_VERTEX:
+        return "a vertex stands twice on the divisor";
+    case KAUGRENNA_DEAD_END:
+        return "the walk arrives at a vertex that no unused use leaves";
+    case KAUGRENNA_TOO_MANY_USES:
+        return "the walk arrives at a vertex that three or more unused uses "
+               "leave (a crowd)";
+    case KAUGRENNA_EMPTY_LIST:
+        return "the walk arrives at a vertex whose list is empty";
+    case KAUGRENNA_SEVERAL_CUTS:
+        return "an edge is to be cut at two or more places";
+    case KAUGRENNA_EMPTY_OPEN_WIRE:
+        return "an open wire handed to a join is empty";
+    default:
+        return "the code is unknown: header and archive do not belong together";
+    }
+}
+
 #ifdef __cplusplus
 extern "C" {
 #endif
-
-/* "None": the call has no result, and nothing is wrong with its input. */
-#define KAUGRENNA_NONE (-1)
-
-/*
- * The refusals. Every input is checked, used or not, and the lowest number
- * wins; 8, 11, 12 and 13 come after the others, as first reached. Outside a
- * split 6 comes last of all.
- */
-enum kaugrenna_refusal {
-    /* a count is above its bound or above what was lent, the sum of the wire
-       lengths is, or a kind is unknown */
-    KAUGRENNA_MALFORMED = 1,
-    /* a vertex number is not below the vertex count */
-    KAUGRENNA_VERTEX_NUMBER = 2,
-    /* an edge number is not below the edge count */
-    KAUGRENNA_EDGE_NUMBER = 3,
-    /* a float is not a number, or above 1.0e15 in size */
-    KAUGRENNA_NOT_SIZED = 4,
-    /* t0 is above t1, a parameter is outside its curve's range, or a period
-       is not above 0 */
-    KAUGRENNA_OUT_OF_RANGE = 5,
-    /* the result passes a bound on a count, or a lent buffer is too short
-       for it */
-    KAUGRENNA_NO_ROOM = 6,
-    /* a vertex lent to nearest ends or to the search is pending */
-    KAUGRENNA_PENDING_VERTEX = 7,
-    /* in the search the second place is past the end */
-    KAUGRENNA_PAST_END = 8,
-    /* the count of vertices on the divisor is odd */
-    KAUGRENNA_ODD_DIVISOR = 9,
-    /* a vertex stands twice on the divisor */
-    KAUGRENNA_REPEATED_VERTEX = 10,
-    /* the walk arrives at a vertex that no unused use leaves */
-    KAUGRENNA_DEAD_END = 11,
-    /* the walk arrives at a vertex that three or more unused uses leave */
-    KAUGRENNA_TOO_MANY_USES = 12,
-    /* the walk arrives at a vertex whose list is empty */
-    KAUGRENNA_EMPTY_LIST = 13,
-    /* an edge is to be cut at two or more places */
-    KAUGRENNA_SEVERAL_CUTS = 14,
-    /* an open wire handed to a join is empty */
-    KAUGRENNA_EMPTY_OPEN_WIRE = 15,
-};
-
-/* The kinds of a wire, and those of a period. */
-enum kaugrenna_kind { KAUGRENNA_POSITIVE = 0, KAUGRENNA_NEGATIVE = 1, KAUGRENNA_NOT_CLOSED = 2 };
-enum kaugrenna_period { KAUGRENNA_ABSENT = 0, KAUGRENNA_EVERY = 1 };
 
 /*
  * Every closed edge is cut and every wire mended, in place. 0: done, and the
  * three places hold the new counts of vertices, edges and uses. Else the
  * number of the refusal, and nothing lent is changed.
+ *
+ * Room: a row in each table for every closed edge, and a place in `uses` for
+ * every use of one.
  */
 int32_t kaugrenna_split_closed_edges(
     uint32_t *vertex_numbers,
@@ -126,6 +226,9 @@ int32_t kaugrenna_split_closed_edges(
  * every wire, in place, and two or more are refused (14). 0: done, and the
  * three places hold the counts of vertices, edges and uses. Else the number
  * of the refusal, and nothing lent is changed.
+ *
+ * Room: for one cut a row in each table, and a place in `uses` for every use
+ * of the edge; for no cut none.
  */
 int32_t kaugrenna_cut_edge_by_intersections(
     uint32_t *vertex_numbers,
@@ -152,9 +255,11 @@ int32_t kaugrenna_cut_edge_by_intersections(
     size_t *uses_out);
 
 /*
- * u, moved by whole periods to where it is nearest to u0. 0: done, and `out`
- * holds the number. Else the number of the refusal, and `out` is not
- * changed.
+ * u, moved by -2 to 2 periods to where it is nearest to u0; the lower move on
+ * a tie. No other moves are looked at: with u 0, u0 100 and period 4 the
+ * answer is 8. Where the period is absent `period` is not read, and the
+ * answer is u. 0: done, and `out` holds the number. Else the number of the
+ * refusal, and `out` is not changed.
  */
 int32_t kaugrenna_get_mindiff(
     double u,
@@ -164,9 +269,11 @@ int32_t kaugrenna_get_mindiff(
     double *out);
 
 /*
- * Of the copies of q, moved by whole periods, the first that is nearest to
- * p. 0: done, and the two places hold the copy. Else the number of the
- * refusal, and neither place is changed.
+ * Of the copies of q, moved by -2 to 2 periods in u and by -2 to 2 in v, the
+ * first that is nearest to p, with the moves in u outermost. No other copies
+ * are looked at. Where a period is absent its number is not read, and the
+ * only move is 0, which makes 0.0 of -0.0. 0: done, and the two places hold
+ * the copy. Else the number of the refusal, and neither place is changed.
  */
 int32_t kaugrenna_nearest_copy(
     double pu,
@@ -184,6 +291,9 @@ int32_t kaugrenna_nearest_copy(
  * The kind of a wire, from its first point, its last point and its area. 0:
  * done, and `kind_out` holds 0 for Positive, 1 for Negative and 2 for
  * NotClosed. Else the number of the refusal, and `kind_out` is not changed.
+ *
+ * A wire is closed where the squared distance of both points is below 1.0e-3,
+ * and then Positive where the area is above 0.
  */
 int32_t kaugrenna_boundary_type(
     double u0,
@@ -198,6 +308,11 @@ int32_t kaugrenna_boundary_type(
  * order, to the front of their slices. 0: done, and `closed_out` holds how
  * many are closed. -1: not exactly two are open. Else the number of the
  * refusal. After -1 and a refusal nothing lent is changed.
+ *
+ * `ends` has a row of five floats for each wire: u, v of its first point, u,
+ * v of its last point, and its area. Open is what is NotClosed.
+ *
+ * Room: two places in `open`, and one in `closed` for every closed wire.
  */
 int32_t kaugrenna_sort_wires(
     const double *ends,
@@ -267,6 +382,11 @@ int32_t kaugrenna_find_non_simple_wire_divisor(
  * edge table, and the answered wires go to `uses` and `lengths`. 0: done,
  * and the three places hold the counts of wires, of their uses and of edges.
  * Else the number of the refusal, and nothing lent is changed.
+ *
+ * Room: in `uses` and in `lengths` each a place for every use to be rebuilt
+ * and two for every pair on the divisor (first with second, third with
+ * fourth), however few wires come of it; a row in the edge table for every
+ * pair.
  */
 int32_t kaugrenna_split_boundaries_by_divisor(
     uint32_t *edge_numbers,
@@ -304,6 +424,18 @@ int32_t kaugrenna_split_boundaries_by_divisor(
  * which replaces that new wire, in place. 0: done, and the place holds how
  * many uses the new wires have now. -1: something is not found. Else the
  * number of the refusal. After -1 and a refusal nothing lent is changed.
+ *
+ * What is looked for are fronts of uses. First v0, in the first open wire or
+ * else in the second; where it is not the front of that wire's first use, the
+ * two change places. Then v1 in the second open wire, v0 in the new wires,
+ * and v1 in the first open wire and that new wire together. -1: one of these
+ * four is not found.
+ *
+ * Bounds: the two open wires count among the 64 wires, and their uses among
+ * the 1,024.
+ *
+ * Room: in `uses` a place for every use of the two open wires, behind those
+ * of the new wires; in `lengths` none.
  */
 int32_t kaugrenna_connect_open_boundaries(
     const uint32_t *edge_numbers,

@@ -43,17 +43,23 @@ pub enum BoundaryType {
     NotClosed = 2,
 }
 
-/// What an unknown code would mean: another archive than this crate's.
-fn unknown(code: i64) -> ! {
-    panic!("the archive answered {code}, which include/kaugrenna.h does not have")
+impl BoundaryType {
+    /// The kind that the archive tells by this number.
+    fn of(kind: u32) -> Result<BoundaryType, Refusal> {
+        match kind {
+            0 => Ok(BoundaryType::Positive),
+            1 => Ok(BoundaryType::Negative),
+            2 => Ok(BoundaryType::NotClosed),
+            _ => Err(Refusal::UnknownKind(kind)),
+        }
+    }
 }
 
 /// A code that tells of a result or of a refusal.
 fn done(code: i32) -> Result<(), Refusal> {
-    match Refusal::of(code) {
-        Some(refusal) => Err(refusal),
-        None if code == DONE => Ok(()),
-        None => unknown(code.into()),
+    match code {
+        DONE => Ok(()),
+        _ => Err(Refusal::of(code).unwrap_or(Refusal::Unknown(code))),
     }
 }
 
@@ -129,12 +135,8 @@ pub fn nearest_copy(p: [f64; 2], q: [f64; 2], periods: [Period; 2]) -> Result<[f
 /// The kind of a wire, from its first and last uv point and its area.
 pub fn boundary_type(first: [f64; 2], last: [f64; 2], area: f64) -> Result<BoundaryType, Refusal> {
     let mut kind = 0;
-    done(raw::boundary_type(first, last, area, &mut kind)).map(|()| match kind {
-        0 => BoundaryType::Positive,
-        1 => BoundaryType::Negative,
-        2 => BoundaryType::NotClosed,
-        _ => unknown(kind.into()),
-    })
+    done(raw::boundary_type(first, last, area, &mut kind))?;
+    BoundaryType::of(kind)
 }
 
 /// The numbers of the two open wires and of the closed ones, to the front of
@@ -231,7 +233,7 @@ pub fn connect_open_boundaries(
 
 #[cfg(test)]
 mod tests {
-    use super::{done, found};
+    use super::{done, found, BoundaryType};
     use crate::Refusal;
 
     #[test]
@@ -247,14 +249,24 @@ mod tests {
     }
 
     #[test]
-    #[should_panic(expected = "the archive answered 16")]
-    fn a_code_that_is_not_known() {
-        let _ = found(16);
+    fn codes_that_are_not_known() {
+        for code in [16, -2, i32::MAX, i32::MIN] {
+            assert_eq!(done(code), Err(Refusal::Unknown(code)));
+            assert_eq!(found(code), Err(Refusal::Unknown(code)));
+        }
+        assert_eq!(done(-1), Err(Refusal::Unknown(-1)));
     }
 
     #[test]
-    #[should_panic(expected = "the archive answered -1")]
-    fn none_where_there_is_no_none() {
-        let _ = done(-1);
+    fn kinds_of_wires() {
+        let kinds = [
+            BoundaryType::Positive,
+            BoundaryType::Negative,
+            BoundaryType::NotClosed,
+        ];
+        for kind in kinds {
+            assert_eq!(BoundaryType::of(kind as u32), Ok(kind));
+        }
+        assert_eq!(BoundaryType::of(3), Err(Refusal::UnknownKind(3)));
     }
 }

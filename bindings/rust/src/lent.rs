@@ -28,6 +28,17 @@ pub const MAX_ROWS: usize = 4096;
 pub const MAX_WIRES: usize = 64;
 /// The most uses in all wires of a call together, and in its result.
 pub const MAX_USES: usize = 1024;
+/// The largest size of a float that is lent.
+pub const MAX_SIZE: f64 = 1.0e15;
+
+/// The kind of a curve that is a span of a numbered curve.
+pub const SPAN: u32 = 0;
+/// The kind of a curve that is a seam on a numbered surface.
+pub const SEAM: u32 = 1;
+/// The kind of a vertex that is given by its point.
+pub const GIVEN: u32 = 0;
+/// The kind of a vertex that is pending: a curve and a parameter.
+pub const PENDING: u32 = 1;
 
 /// The two tables, to be read.
 #[derive(Clone, Copy, Debug)]

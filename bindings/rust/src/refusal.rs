@@ -3,46 +3,64 @@
 use std::error::Error;
 use std::fmt;
 
+use crate::raw::DONE;
+
+/// Why something can be unknown.
+const APART: &str = "module and archive do not belong together";
+
 /// Why a call was turned away. Nothing that it was lent is changed.
+///
+/// The last two are no refusals of a call: the archive told something that
+/// this module does not know, so the two do not belong together, and nothing
+/// is said of what was lent.
 #[derive(Clone, Copy, Debug, PartialEq, Eq, Hash, PartialOrd, Ord)]
-#[repr(i32)]
+#[non_exhaustive]
 pub enum Refusal {
-    /// A count is above its bound or above what was lent, the sum of the wire
-    /// lengths is, or a kind is unknown.
-    Malformed = 1,
-    /// A vertex number is not below the vertex count.
-    VertexNumber = 2,
-    /// An edge number is not below the edge count.
-    EdgeNumber = 3,
-    /// A float is not a number, or above 1.0e15 in size.
-    NotSized = 4,
-    /// t0 is above t1, a parameter is outside its curve's range, or a period
-    /// is not above 0.
-    OutOfRange = 5,
-    /// The result passes a bound, or a lent buffer is too short for it.
-    NoRoom = 6,
-    /// A vertex lent to nearest ends or to the search is pending.
-    PendingVertex = 7,
-    /// In the search the second place is past the end.
-    PastEnd = 8,
-    /// The count of vertices on the divisor is odd.
-    OddDivisor = 9,
-    /// A vertex stands twice on the divisor.
-    RepeatedVertex = 10,
-    /// The walk arrives at a vertex that no unused use leaves.
-    DeadEnd = 11,
-    /// The walk arrives at a vertex that three or more unused uses leave.
-    TooManyUses = 12,
-    /// The walk arrives at a vertex whose list is empty. Never met.
-    EmptyList = 13,
-    /// An edge is to be cut at two or more places.
-    SeveralCuts = 14,
-    /// An open wire handed to a join is empty.
-    EmptyOpenWire = 15,
+    /// 1: a count is above its bound or above what was lent, the sum of the
+    /// wire lengths is, or a kind is neither 0 nor 1.
+    Malformed,
+    /// 2: a vertex number, in an edge or by itself, is not below the vertex
+    /// count.
+    VertexNumber,
+    /// 3: an edge number, in a use or by itself, is not below the edge count.
+    EdgeNumber,
+    /// 4: a float is not a number, or above 1.0e15 in size.
+    NotSized,
+    /// 5: t0 is above t1, a cut or pending parameter is outside its curve's
+    /// range, or a period is not above 0.
+    OutOfRange,
+    /// 6: the result passes a bound on a count, or a lent buffer is too short
+    /// for it.
+    NoRoom,
+    /// 7: a vertex lent to nearest ends or to the non-simple search is
+    /// pending.
+    PendingVertex,
+    /// 8: in the non-simple search the second place is past the end.
+    PastEnd,
+    /// 9: the count of vertices on the divisor is odd.
+    OddDivisor,
+    /// 10: a vertex stands twice on the divisor.
+    RepeatedVertex,
+    /// 11: the walk arrives at a vertex that no unused use leaves.
+    DeadEnd,
+    /// 12: the walk arrives at a vertex that three or more unused uses leave
+    /// (a crowd).
+    TooManyUses,
+    /// 13: the walk arrives at a vertex whose list is empty. Never met.
+    EmptyList,
+    /// 14: an edge is to be cut at two or more places.
+    SeveralCuts,
+    /// 15: an open wire handed to a join is empty.
+    EmptyOpenWire,
+    /// A code that is unknown, or "none" from a call that has no "none".
+    Unknown(i32),
+    /// A result, with a kind of wire that is unknown.
+    UnknownKind(u32),
 }
 
 impl Refusal {
-    /// All refusals, in the order of their numbers.
+    /// All refusals of the refusal table, in the order of their numbers, which
+    /// begin with 1.
     pub const ALL: [Refusal; 15] = [
         Refusal::Malformed,
         Refusal::VertexNumber,
@@ -61,21 +79,43 @@ impl Refusal {
         Refusal::EmptyOpenWire,
     ];
 
-    /// The number in the refusal table.
+    /// The code that the archive answered: the number in the refusal table, or
+    /// one that is unknown; 0 where the kind of wire is unknown.
     pub fn number(self) -> i32 {
-        self as i32
+        match self {
+            Refusal::Malformed => 1,
+            Refusal::VertexNumber => 2,
+            Refusal::EdgeNumber => 3,
+            Refusal::NotSized => 4,
+            Refusal::OutOfRange => 5,
+            Refusal::NoRoom => 6,
+            Refusal::PendingVertex => 7,
+            Refusal::PastEnd => 8,
+            Refusal::OddDivisor => 9,
+            Refusal::RepeatedVertex => 10,
+            Refusal::DeadEnd => 11,
+            Refusal::TooManyUses => 12,
+            Refusal::EmptyList => 13,
+            Refusal::SeveralCuts => 14,
+            Refusal::EmptyOpenWire => 15,
+            Refusal::Unknown(code) => code,
+            Refusal::UnknownKind(_) => DONE,
+        }
     }
 
-    /// The refusal with this number.
+    /// The refusal of the table with this number.
     pub fn of(number: i32) -> Option<Refusal> {
         Refusal::ALL
             .into_iter()
             .find(|refusal| refusal.number() == number)
     }
+}
 
-    /// The sentence of the refusal table.
-    fn sentence(self) -> &'static str {
-        match self {
+/// The sentence of the refusal table, which is that of the header's
+/// `kaugrenna_text`.
+impl fmt::Display for Refusal {
+    fn fmt(&self, to: &mut fmt::Formatter<'_>) -> fmt::Result {
+        let sentence = match self {
             Refusal::Malformed => {
                 "a count is above its bound or above what was lent, the sum of the wire lengths \
                  is, or a kind is neither 0 nor 1"
@@ -107,13 +147,14 @@ impl Refusal {
             Refusal::EmptyList => "the walk arrives at a vertex whose list is empty",
             Refusal::SeveralCuts => "an edge is to be cut at two or more places",
             Refusal::EmptyOpenWire => "an open wire handed to a join is empty",
-        }
-    }
-}
-
-impl fmt::Display for Refusal {
-    fn fmt(&self, to: &mut fmt::Formatter<'_>) -> fmt::Result {
-        to.write_str(self.sentence())
+            Refusal::Unknown(code) => {
+                return write!(to, "the code {code} is unknown: {APART}");
+            }
+            Refusal::UnknownKind(kind) => {
+                return write!(to, "the kind of wire {kind} is unknown: {APART}");
+            }
+        };
+        to.write_str(sentence)
     }
 }
 

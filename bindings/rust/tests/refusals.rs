@@ -197,6 +197,10 @@ fn numbers_and_sentences_of_refusals() {
         assert_eq!(Refusal::of(refusal.number()), Some(refusal));
     }
     assert_eq!([Refusal::of(0), Refusal::of(16)], [None, None]);
+    let unknown = [Refusal::Unknown(16), Refusal::UnknownKind(3)];
+    assert_eq!(unknown.map(Refusal::number), [16, 0]);
+    let said = "the code 16 is unknown: module and archive do not belong together";
+    assert_eq!(unknown[0].to_string(), said);
     let table = include_str!("../../../README.md");
     for refusal in Refusal::ALL {
         let row = format!("| {} | `{refusal:?}` | {refusal} |", refusal.number());

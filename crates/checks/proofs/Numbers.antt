@@ -1,10 +1,10 @@
 -- Every cause of this crate is 0 or a number of the table.
 -- Assumes nothing.
-use mathlib.Core.Path.{◌≡◌, refl}
+use mathlib.Core.Path.{refl}
 use mathlib.Core.Bool.{Bool, true, false, not, ◌&&◌}
 use mathlib.Core.List.{List}
 use mathlib.Core.Logic.{inl, inr}
-use Prim.Native.Nat.{ℕ, zero, suc, ◌+◌, ◌*◌, ◌/◌}
+use Prim.Native.Nat.{ℕ, zero, suc, ◌*◌, ◌/◌}
 use lib.Dec.{eqb, ltb, leb}
 use lib.ListN.{length, get_or, take}
 use lib.Ieee.{Float, lt}
@@ -22,7 +22,7 @@ use Rattle.compress.specs.Records.{pick, first_of, last_of}
 use Rattle.compress.specs.Refusals.{refusal_number, IsCause}
 use Rattle.compress.specs.Rows.{edge_kind_at, vertex_kind_at, curve_kind_at, edge_at, vertex_at}
 use Rattle.compress.specs.Wires.{total}
-use Rattle.checks.specs.Causes.{when, lower_of, lowest_of, count_cause, kind_cause, vertex_number_cause, edge_number_cause, float_cause, range_cause, parameter_cause, period_cause, uv_cause, curve_cause, edge_cause, point_cause, vertex_cause, edge_row_cause, curve_kind_cause, vertex_row_cause, table_cause, edges_cause, vertices_cause, pending_row_cause, pending_cause, uses_cause, wires_cause}
+use Rattle.checks.specs.Causes.{when, lower_of, lowest_of, kind_cause, vertex_number_cause, edge_number_cause, float_cause, range_cause, parameter_cause, period_cause, uv_cause, curve_cause, edge_cause, point_cause, vertex_cause, edge_row_cause, curve_kind_cause, vertex_row_cause, table_cause, edges_cause, vertices_cause, pending_row_cause, pending_cause, uses_cause, wires_cause}
 use Rattle.checks.proofs.Lowest.{Lower, none, first, second, lower_is}
 
 -- ---- by how a cause is put together

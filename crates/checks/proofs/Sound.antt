@@ -14,9 +14,9 @@ use lib.Ieee.Scale.{finite}
 use Rattle.std.specs.Prelude.{fold}
 use Rattle.std.proofs.lemmas.Bool.{and_parts}
 use Rattle.floats.specs.Exact.{big, sized_of}
-use Rattle.floats.specs.Value.{Held, Sle, test→sle}
-use Rattle.floats.specs.Rounds.{neg_held, held_between}
-use Rattle.floats.specs.Mono.{le_trans_held}
+use Rattle.floats.proofs.Value.{Held, Sle, test→sle}
+use Rattle.floats.proofs.Rounds.{neg_held, held_between}
+use Rattle.floats.proofs.Mono.{le_trans_held, nlt→le}
 use Rattle.floats.proofs.Sized.{big_held, sized_held}
 use Rattle.compress.specs.declared.Uv.{Uv}
 use Rattle.compress.specs.declared.Curve.TheVariants.{Span, Seam}
@@ -151,6 +151,22 @@ parameter_sound t0 t1 t f0 f1 f a u e =
     (le_trans_held (neg_held big_held) h0 h (and_l (le (neg big) t0) (le t0 big) s0) a)
     (le_trans_held h h1 big_held u (and_r (le (neg big) t1) (le t1 big) s1)))
     (lower_zero (when (lt t t0) 5) _ (rw (not_above t0 t h0.bounded h.bounded a)) (rw (not_above t t1 h.bounded h1.bounded u)))
+
+-- a range without a cause is in order
+not_turned : (b : Bool) → when b 5 ≡ 0 → T (not b)
+not_turned true q = absurd (omega arith)
+not_turned false q = tt
+
+pub range_ordered : (t0 t1 : Float) → T (fits binary64 t0) → T (fits binary64 t1) → range_cause t0 t1 ≡ 0 → T (sized_of t0) × T (sized_of t1) × T (le t0 t1)
+unfolding range_cause
+range_ordered t0 t1 f0 f1 e =
+    let a = lower_none (float_cause t0) _ e in
+    let b = lower_none (float_cause t1) (when (lt t1 t0) 5) a.1 in
+    let s0 = sized_if_sound t0 a.0 in
+    let s1 = sized_if_sound t1 b.0 in
+    let h0 : Held binary64 t0 = sized_held (record { fit = f0; size = s0 }) in
+    let h1 : Held binary64 t1 = sized_held (record { fit = f1; size = s1 }) in
+    (s0, s1, nlt→le t1 t0 h1.bounded h0.bounded (not_turned (lt t1 t0) b.1))
 
 -- ---- records
 pub uv_sound : (p : Uv) → sized_of p.u ≡ true → sized_of p.v ≡ true → uv_cause p ≡ 0

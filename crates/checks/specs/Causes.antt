@@ -1,6 +1,6 @@
 -- Document 01's causes 1 to 5, of lone numbers, of records, of tables and of wires. A cause is its number, and 0 is none.
 -- "Every input is checked, used or not. The lowest number wins." Definitions only.
-use Rattle.std.specs.Prelude.{Bool, true, false, not, ◌&&◌, List, ℕ, zero, suc, ◌+◌, ◌*◌, ◌/◌, min, eqb, leb, ltb, length, get_or, take, Float}
+use Rattle.std.specs.Prelude.{Bool, true, false, not, ◌&&◌, List, ℕ, zero, suc, ◌*◌, ◌/◌, min, eqb, leb, ltb, length, get_or, take, Float}
 use Rattle.std.specs.Float.Ieee.{lt}
 use Rattle.compress.specs.Constants.{zero64}
 use Rattle.floats.specs.Exact.{sized_of}

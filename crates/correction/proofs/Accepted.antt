@@ -14,7 +14,7 @@ use Rattle.checks.specs.Causes.{uses_cause, vertex_number_cause}
 use Rattle.checks.proofs.Accepted.{passed, not_when, uses_in}
 use Rattle.checks.proofs.Lowest.{lower_none}
 use Rattle.checks.proofs.points.Accepted.{TablesAccepted, tables_accepted}
-use Rattle.correction.specs.Correction.{stretches_cause, ends_cause}
+use Rattle.correction.specs.Correction.{LentStretches, stretches_cause, ends_cause}
 use Rattle.checks.specs.points.Tables.{tables_cause}
 
 -- a stretch without a cause: its front of n uses
@@ -35,7 +35,12 @@ pub record EndsAccepted (vn : List ℕ) (vf : List Float) (en : List ℕ) (ef : 
   pub first : Stretch e a n
   pub second : Stretch e b m
 
-pub ends_accepted : (vn : List ℕ) (vf : List Float) (en : List ℕ) (ef : List Float) (a b : List ℕ) (v e n m v0 : ℕ) → ends_cause vn vf en ef a b v e n m v0 ≡ 0
+-- by each field, as a search finds it
+abbrev lent_by : List ℕ → List Float → List ℕ → List Float → List ℕ → List ℕ → ℕ → ℕ → ℕ → ℕ → ℕ → LentStretches
+lent_by vn vf en ef a b v e n m v0 =
+    record { vn = vn; vf = vf; en = en; ef = ef; first = a; second = b; vertices = v; edges = e; first_count = n; second_count = m; v0 = v0 }
+
+pub ends_accepted : (vn : List ℕ) (vf : List Float) (en : List ℕ) (ef : List Float) (a b : List ℕ) (v e n m v0 : ℕ) → ends_cause (lent_by vn vf en ef a b v e n m v0) ≡ 0
     → EndsAccepted vn vf en ef a b v e n m v0
 unfolding ends_cause stretches_cause
 ends_accepted vn vf en ef a b v e n m v0 q =

@@ -15,10 +15,26 @@ stretches_cause edges a n b m =
     (pick (ltb (length b) m) 1
     (pick (ltb 1024 (n + m)) 1 (lower_of (uses_cause edges a n) (uses_cause edges b m))))
 
-unfoldable pub ends_cause : List ℕ → List Float → List ℕ → List Float → List ℕ → List ℕ → ℕ → ℕ → ℕ → ℕ → ℕ → ℕ
-ends_cause vn vf en ef a b v e n m v0 =
-    lower_of (tables_cause vn vf en ef v e) (lower_of (vertex_number_cause v v0) (stretches_cause e a n b m))
+-- what a call is lent: vertices and edges, two stretches, a count of each, and the vertex that they are seen from
+pub record LentStretches : Type 0 where
+  pub vn : List ℕ
+  pub vf : List Float
+  pub en : List ℕ
+  pub ef : List Float
+  pub first : List ℕ
+  pub second : List ℕ
+  pub vertices : ℕ
+  pub edges : ℕ
+  pub first_count : ℕ
+  pub second_count : ℕ
+  pub v0 : ℕ
 
-unfoldable pub nearest_correction : List ℕ → List Float → List ℕ → List Float → List ℕ → List ℕ → ℕ → ℕ → ℕ → ℕ → ℕ → Said Ends
-nearest_correction vn vf en ef a b v e n m v0 =
-    refused_or (ends_cause vn vf en ef a b v e n m v0) (nearest_ends (edge_at en ef) (vertex_at vn vf) v0 (take n a) (take m b))
+unfoldable pub ends_cause : LentStretches → ℕ
+ends_cause l =
+    lower_of (tables_cause l.vn l.vf l.en l.ef l.vertices l.edges)
+    (lower_of (vertex_number_cause l.vertices l.v0) (stretches_cause l.edges l.first l.first_count l.second l.second_count))
+
+unfoldable pub nearest_correction : LentStretches → Said Ends
+nearest_correction l =
+    refused_or (ends_cause l)
+    (nearest_ends (edge_at l.en l.ef) (vertex_at l.vn l.vf) l.v0 (take l.first_count l.first) (take l.second_count l.second))

@@ -1,2 +1,3 @@
 pub mod Correction
+pub mod Lent
 pub mod nearest

@@ -7,6 +7,7 @@ ghost use Rattle.std.specs.Prelude.{◌≡◌};
 ghost use Rattle.compress.specs.Refusals.{cause_of};
 ghost use Rattle.compress.specs.Said.{said_if};
 ghost use Rattle.correction.specs.Correction.{stretches_cause, ends_cause, nearest_correction};
+ghost use Rattle.correction.specs.Lent.{lent};
 
 use crate::nearest::Ends;
 use crate::nearest::sound::SoundTables;
@@ -25,10 +26,7 @@ fn stretches_cause(edges: usize, first: &Stretch, second: &Stretch) -> Checked
 
 #[tactic(auto, unfolding(crate::specs::Correction::ends_cause))]
 fn ends_cause(tables: &Tables, first: &Stretch, second: &Stretch, v0: u32) -> Checked
-    ensures { let v = tables.now.vertices in
-        let e = tables.now.edges in
-        cause_of result ≡ ends_cause v.numbers.now v.floats.now e.numbers.now e.floats.now
-        first.now.uses.now second.now.uses.now v.count e.count first.now.count second.now.count v0 }
+    ensures { cause_of result ≡ ends_cause (lent tables.now first.now second.now v0) }
 {
     let t = checks::points::tables_cause(tables);
     let w = stretches_cause(tables.edges.count, first, second);
@@ -44,10 +42,7 @@ pub fn nearest_correction(
     second: &Stretch,
     v0: u32,
 ) -> Result<Option<Ends>, Refusal>
-    ensures { let v = tables.now.vertices in
-        let e = tables.now.edges in
-        said_if (λ e. e) result ≡ nearest_correction v.numbers.now v.floats.now e.numbers.now e.floats.now
-        first.now.uses.now second.now.uses.now v.count e.count first.now.count second.now.count v0 }
+    ensures { said_if (λ e. e) result ≡ nearest_correction (lent tables.now first.now second.now v0) }
 {
     ends_cause(tables, first, second, v0)?;
     let tables = SoundTables {

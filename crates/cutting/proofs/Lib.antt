@@ -1,3 +1,4 @@
+pub mod Within
 pub mod Room
 pub mod Outcome
 pub mod Reading

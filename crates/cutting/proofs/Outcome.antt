@@ -9,15 +9,11 @@ use lib.Dec.{leb}
 use lib.ListN.{length}
 use lib.Ieee.{Float}
 use Rattle.std.specs.Prelude.{Result, Ok, Err, is_ok}
-use Rattle.compress.specs.declared.Refusal.{Refusal}
 use Rattle.compress.specs.declared.Refusal.TheVariants as refusal
-use Rattle.compress.specs.Refusals.{refusal_number}
-use Rattle.compress.proofs.Refused.{number_above}
 use Rattle.compress.specs.declared.Vertex.{Vertex}
 use Rattle.compress.specs.Layout.{store, store_from, rows}
 use Rattle.compress.specs.Rows.{vertex_at, edge_number_layout, edge_float_layout, vertex_number_layout, vertex_float_layout}
-use Rattle.compress.specs.Said.{refused}
-use Rattle.compress.specs.Shell.{Shell, Slices, store_shell, counts_of, vertices_fit, edges_fit, has_room}
+use Rattle.compress.specs.Shell.{Shell, store_shell, counts_of, vertices_fit, edges_fit, has_room}
 use Rattle.compress.proofs.Layouts.{length_rows, store_append, store_same}
 use Rattle.compress.proofs.Rows.{vertex_numbers_stand, vertex_floats_stand}
 use Rattle.checks.specs.Causes.{vertices_cause, edges_cause, wires_cause}
@@ -25,7 +21,7 @@ use Rattle.checks.proofs.Accepted.{VerticesAccepted, EdgesAccepted, WiresAccepte
 use Rattle.checks.proofs.Lowest.{lower_none}
 use Rattle.cutting.specs.declared.mending.NoRoom.{NoRoom}
 use Rattle.cutting.specs.mending.Steps.{InPlace, count_told}
-use Rattle.cutting.specs.Contract.{Outcome, lent_of, leaves, input_cause, result_of}
+use Rattle.cutting.specs.Contract.{lent_of, leaves, input_cause, result_of}
 
 module _ (vn : List ℕ) (vf : List Float) (en : List ℕ) (ef : List Float) (us ls : List ℕ) (v e w : ℕ) where
   pub record Accepted : Type 0 where

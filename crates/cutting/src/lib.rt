@@ -8,7 +8,8 @@ ghost use Rattle.std.specs.Prelude.{◌≡◌, ◌&&◌, ℕ, ◌+◌, ◌*◌, 
 ghost use Rattle.compress.specs.Refusals.{cause_of};
 ghost use Rattle.compress.specs.Shell.{vertices_fit, edges_fit};
 ghost use Rattle.compress.specs.Rows.{numbers_per_edge, floats_per_edge, numbers_per_vertex, floats_per_vertex};
-ghost use Rattle.cutting.specs.Contract.{input_cause, lent_of};
+ghost use Rattle.cutting.specs.Contract.{input_cause};
+ghost use Rattle.cutting.specs.Lent.{seen};
 
 use compress::{Checked, Edge, Vertex};
 use rows::lent::Wires;
@@ -16,11 +17,7 @@ use rows::tables::Table;
 
 // Causes 1 to 5, over all that is lent. Two tables, here and below, and no `Tables`: callers have them to be written, and would put it together at each call.
 pub fn input_cause(vertices: &Table<Vertex>, edges: &Table<Edge>, wires: &Wires) -> Checked
-    ensures { let v = vertices.now in
-        let e = edges.now in
-        let w = wires.now in
-        cause_of result ≡ input_cause
-        (lent_of v.numbers.now v.floats.now e.numbers.now e.floats.now w.uses.now w.lengths.now v.count e.count w.count) }
+    ensures { cause_of result ≡ input_cause (seen vertices.now edges.now wires.now) }
 {
     let v = checks::tables::vertices(vertices);
     let e = checks::tables::edges(vertices.count, edges);

@@ -7,9 +7,9 @@ use Rattle.std.specs.Float.{Format, binary64}
 use Rattle.std.specs.Float.Ieee.{emax, low, round, add, sub, mul, le}
 use Rattle.std.specs.Float.Ieee.Scale.{finite}
 use Rattle.floats.specs.Exact.{gap2, distance2_uv, distance2_xyz}
-use Rattle.floats.specs.Value.{mag}
-use Rattle.floats.specs.Bounds.{Under, weaken, add_under, sub_under, mul_under}
-use Rattle.floats.specs.Mono.{zero_f, add_nonneg, square_is, square_nonneg, sub_mag}
+use Rattle.floats.proofs.Value.{mag}
+use Rattle.floats.proofs.Bounds.{Under, weaken, add_under, sub_under, mul_under}
+use Rattle.floats.proofs.Mono.{zero_f, add_nonneg, square_is, square_nonneg, sub_mag}
 use Rattle.floats.proofs.Sized.{Sized, sized_under}
 
 -- ---- one coordinate, and one sum, in any format

@@ -1,4 +1,8 @@
--- The laws of the bound, of the midpoint and of the squared distance.
+-- Values and their order, the laws of rounding, and those of the bound, of the midpoint and of the squared distance.
+pub mod Value
+pub mod Rounds
+pub mod Bounds
+pub mod Mono
 pub mod Sized
 pub mod Middle
 pub mod Distance

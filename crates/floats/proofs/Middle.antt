@@ -7,8 +7,8 @@ use Rattle.std.specs.Float.Ieee.Fits.{add-fits}
 use Rattle.compress.specs.Constants.{two64}
 use Rattle.floats.specs.Exact.{midpoint_of, Midpoint}
 use Rattle.floats.proofs.Sized.{Sized, two_held, two_sgn, two_mag, big_mag, sized_held, sized_mag}
-use Rattle.floats.specs.Value.{sgn, place, mag, pv, nv, Held, plus_mul, less_mul, short_of, le→sle, round_rep}
-use Rattle.floats.specs.Rounds.{held_between, rounds_ge, rounds_le, add_rounds, div_rounds}
+use Rattle.floats.proofs.Value.{sgn, place, mag, pv, nv, Held, plus_mul, less_mul, short_of, le→sle, round_rep}
+use Rattle.floats.proofs.Rounds.{held_between, rounds_ge, rounds_le, add_rounds, div_rounds}
 
 -- ---- twice a value is a value, below the overflow
 pub record Doubled (f : Format) (x : Float) : Type 0 where

@@ -6,9 +6,9 @@ use Rattle.std.specs.Float.Ieee.{emax, low, neg, fits, le, of_bits}
 use Rattle.std.specs.Float.Ieee.Fits.{and_l, and_r}
 use Rattle.compress.specs.Constants.{two64}
 use Rattle.floats.specs.Exact.{big, sized_of}
-use Rattle.floats.specs.Value.{sgn, mag, Held}
-use Rattle.floats.specs.Rounds.{held_between, neg_held}
-use Rattle.floats.specs.Bounds.{Under, mag_within}
+use Rattle.floats.proofs.Value.{sgn, mag, Held}
+use Rattle.floats.proofs.Rounds.{held_between, neg_held}
+use Rattle.floats.proofs.Bounds.{Under, mag_within}
 
 -- ---- the constants
 pub two_held : Held binary64 two64

@@ -1,7 +1,3 @@
--- The definitions that the crate's contracts cite, and the laws of rounding. The laws on the definitions are in proofs/.
+-- The definitions that the crate's contracts cite, with worked examples.
 pub mod Exact
-pub mod Value
-pub mod Rounds
-pub mod Bounds
-pub mod Mono
 pub mod Examples

@@ -1,14 +1,16 @@
 -- What a host is told: a number for the answer, and the values of a result in the places that it lent. Definitions only.
-use Rattle.std.specs.Prelude.{◌≡◌, List, ℕ, Float, ℤ, pos, negsuc}
+use Rattle.std.specs.Prelude.{◌≡◌, ◌≢◌, ◌⊎◌, List, ℕ, zero, suc, Float, ℤ, pos, negsuc}
 use Rattle.compress.specs.declared.Uv.{Uv}
 use Rattle.compress.specs.Said.{Said, result, none, refused, on_result}
 use Rattle.compress.specs.declared.Counts.{Counts}
 use Rattle.compress.specs.Shell.{Slices}
 use Rattle.cutting.specs.Contract.{Outcome}
 use Rattle.join.specs.joined.Outcome.{JoinOutcome}
+use Rattle.split_closed_edges.specs.add_edges.Steps.{VerticesPass}
 use Rattle.split.specs.declared.Boundaries.{Boundaries}
 use Rattle.split.specs.Contract.{SplitOutcome}
-use Rattle.split.specs.split_causes.Causes.{Buffers}
+use Rattle.split.specs.split_causes.Causes.{Buffers, LentSplit, split_cause}
+use Rattle.split.specs.Demand.{fronts_at, backs_at, Balanced, AtMostTwo, Kept}
 use Rattle.wire_kinds.specs.declared.BoundaryType.{BoundaryType}
 use Rattle.wire_kinds.specs.Kinds.{boundary_number, SortOutcome, boundary_type_said}
 
@@ -24,23 +26,33 @@ places_after (result a) before = a
 places_after none before = before
 places_after (refused n) before = before
 
--- what a host is told of an answer: the code r, and what the places lent for a result hold, before the call and after it
+-- the answer that a host reads off a code and its places: 0 is a result, which the places hold, a code above 0 is the refusal of that number,
+-- and one below 0 is "none"
+abbrev pub read_off : {A : Type 0} → ℤ → A → Said A
+read_off (pos zero) after = result after
+read_off (pos (suc n)) after = refused (suc n)
+read_off (negsuc n) after = none
+
+-- What a host is told of an answer: the code r, and what the places lent for a result hold, before the call and after it. What it reads off them
+-- is the answer: so the code is 0 just where there is a result, above 0 just where the call is turned away, and -1 just where there is "none".
 pub record Told {A : Type 0} (s : Said A) (before after : A) (r : ℤ) : Type 0 where
   pub code : r ≡ code_of s
   pub places : after ≡ places_after s before
+  pub read : s ≡ read_off r after
 
 -- a point, by its two numbers
 abbrev pub uv_of : Float → Float → Uv
 uv_of u v = record { u = u; v = v }
 
--- the contents of the six slices of a shell
-abbrev pub slices_of : List ℕ → List Float → List ℕ → List Float → List ℕ → List ℕ → Slices
-slices_of vn vf en ef us ls = record { vn = vn; vf = vf; en = en; ef = ef; us = us; ls = ls }
-
 -- ---- a call that changes a shell, for a host: the closed-edge pass, or one cut
 pub record HostShell (o : Outcome) (before after : Counts) (slices : Slices) (r : ℤ) : Type 0 where
   pub told : Told o.said before after r
   pub lent : slices ≡ o.slices
+
+-- "The midpoint never leaves the range from t0 to t1", of what the pass leaves to a host: where the code is 0, no vertex below the count that is told
+-- has a cause, and so the parameter of each new one lies within the range of its curve.
+pub record HostMiddles (after : Counts) (slices : Slices) (r : ℤ) : Type 0 where
+  pub within : r ≡ pos 0 → VerticesPass slices.vn slices.vf after.vertices
 
 -- ---- the join of open wires, for a host
 pub record HostJoin (o : JoinOutcome) (before after : ℕ) (us ls : List ℕ) (r : ℤ) : Type 0 where
@@ -52,6 +64,20 @@ pub record HostJoin (o : JoinOutcome) (before after : ℕ) (us ls : List ℕ) (r
 pub record HostBoundaries (o : SplitOutcome) (before after : Boundaries) (buffers : Buffers) (r : ℤ) : Type 0 where
   pub told : Told o.said before after r
   pub lent : buffers ≡ o.buffers
+
+-- Demand 3 for a host: of what it lent, and of what its places and slices hold before and after a call with the code r.
+-- The first three are of a call that passes the checks made before the walk.
+pub record HostKeeps (l : LentSplit) (before after : Boundaries) (buffers : Buffers) (r : ℤ) : Type 0 where
+  -- if each vertex is the front of as many uses as it is the back of, and the front of at most two, the code is 0
+  pub succeeds : split_cause l ≡ 0 → Balanced l → AtMostTwo l → r ≡ pos 0
+  -- if at any vertex the two numbers are unequal, it is 11, a dead end, or 12, a crowd
+  pub refuses : split_cause l ≡ 0 → (v : ℕ) → fronts_at l v ≢ backs_at l v → (r ≡ pos 11) ⊎ (r ≡ pos 12)
+  -- and where they are equal at each, it is never 11, whatever the degree
+  pub no_dead_end : split_cause l ≡ 0 → Balanced l → r ≢ pos 11
+  -- where the code is 0 the answered wires keep the uses: each stands in them exactly as often as it was counted, and each wire is closed
+  pub kept : r ≡ pos 0 → Kept l after buffers
+  -- where it is another, the places and the slices hold what they held
+  pub unchanged : r ≢ pos 0 → (after ≡ before) × (buffers ≡ l.buffers)
 
 -- ---- the kind of a wire, for a host
 abbrev pub numbered : Said BoundaryType → Said ℕ

@@ -1,7 +1,8 @@
 // The call for hosts that cuts one edge.
-ghost use Rattle.cutting.specs.Contract.{lent_of};
+ghost use Rattle.compress.specs.declared.Counts.{Counts};
+ghost use Rattle.compress.specs.Shell.{Slices, Lent};
 ghost use Rattle.one_cut.specs.Contract.{cut_outcome};
-ghost use Rattle.healing.specs.Host.{HostShell, slices_of};
+ghost use Rattle.healing.specs.Host.{HostShell};
 
 use crate::codes;
 use one_cut::cuts::EdgeCuts;
@@ -29,12 +30,30 @@ pub extern "C" fn kaugrenna_cut_edge_by_intersections(
     edges_out: &mut usize,
     uses_out: &mut usize,
 ) -> i32
-    ensures { HostShell
-        (cut_outcome (lent_of vertex_numbers.old vertex_floats.old edge_numbers.old edge_floats.old uses.old lengths.old
-        vertices edges wires) edge cuts.now cut_count)
-        (record { vertices = vertices_out.old; edges = edges_out.old; uses = uses_out.old })
-        (record { vertices = vertices_out.new; edges = edges_out.new; uses = uses_out.new })
-        (slices_of vertex_numbers.new vertex_floats.new edge_numbers.new edge_floats.new uses.new lengths.new) result }
+    ensures { let before : Counts = record { vertices = vertices_out.old; edges = edges_out.old; uses = uses_out.old } in
+        let after : Counts = record { vertices = vertices_out.new; edges = edges_out.new; uses = uses_out.new } in
+        let lent : Lent = record {
+          slices = record {
+            vn = vertex_numbers.old;
+            vf = vertex_floats.old;
+            en = edge_numbers.old;
+            ef = edge_floats.old;
+            us = uses.old;
+            ls = lengths.old;
+          };
+          vertices = vertices;
+          edges = edges;
+          wires = wires;
+        } in
+        let left : Slices = record {
+          vn = vertex_numbers.new;
+          vf = vertex_floats.new;
+          en = edge_numbers.new;
+          ef = edge_floats.new;
+          us = uses.new;
+          ls = lengths.new;
+        } in
+        HostShell (cut_outcome lent edge cuts.now cut_count) before after left result }
 {
     let mut vs = TableMut::new(vertex_numbers, vertex_floats, vertices);
     let mut es = TableMut::new(edge_numbers, edge_floats, edges);

@@ -1,5 +1,5 @@
 // The call for hosts that joins two open wires.
-ghost use Rattle.join.specs.Contract.{join_outcome};
+ghost use Rattle.join.specs.Contract.{LentJoin, join_outcome};
 ghost use Rattle.healing.specs.Host.{HostJoin};
 
 use crate::codes;
@@ -25,8 +25,24 @@ pub extern "C" fn kaugrenna_connect_open_boundaries(
     v1: u32,
     uses_out: &mut usize,
 ) -> i32
-    ensures { HostJoin (join_outcome edge_numbers.now edge_floats.now first.now second.now uses.old lengths.old
-        vertices edges first_count second_count wires v0 v1) uses_out.old uses_out.new uses.new lengths.new result }
+    ensures { let before = uses_out.old in
+        let after = uses_out.new in
+        let lent : LentJoin = record {
+          en = edge_numbers.now;
+          ef = edge_floats.now;
+          first = first.now;
+          second = second.now;
+          us = uses.old;
+          ls = lengths.old;
+          vertices = vertices;
+          edges = edges;
+          first_count = first_count;
+          second_count = second_count;
+          wires = wires;
+          v0 = v0;
+          v1 = v1;
+        } in
+        HostJoin (join_outcome lent) before after uses.new lengths.new result }
 {
     let es = Table::new(edge_numbers, edge_floats, edges);
     let first = Stretch {

@@ -10,9 +10,10 @@ mod periods;
 mod search;
 mod splits;
 
-ghost use Rattle.cutting.specs.Contract.{lent_of};
+ghost use Rattle.compress.specs.declared.Counts.{Counts};
+ghost use Rattle.compress.specs.Shell.{Slices, Lent};
 ghost use Rattle.split_closed_edges.specs.Contract.{outcome_of};
-ghost use Rattle.healing.specs.Host.{HostShell, slices_of};
+ghost use Rattle.healing.specs.Host.{HostShell, HostMiddles};
 
 use rows::lent::WiresMut;
 use rows::tables::TableMut;
@@ -34,12 +35,33 @@ pub extern "C" fn kaugrenna_split_closed_edges(
     edges_out: &mut usize,
     uses_out: &mut usize,
 ) -> i32
-    ensures { HostShell
-        (outcome_of (lent_of vertex_numbers.old vertex_floats.old edge_numbers.old edge_floats.old uses.old lengths.old
-        vertices edges wires))
-        (record { vertices = vertices_out.old; edges = edges_out.old; uses = uses_out.old })
-        (record { vertices = vertices_out.new; edges = edges_out.new; uses = uses_out.new })
-        (slices_of vertex_numbers.new vertex_floats.new edge_numbers.new edge_floats.new uses.new lengths.new) result }
+    ensures { let before : Counts = record { vertices = vertices_out.old; edges = edges_out.old; uses = uses_out.old } in
+        let after : Counts = record { vertices = vertices_out.new; edges = edges_out.new; uses = uses_out.new } in
+        let lent : Lent = record {
+          slices = record {
+            vn = vertex_numbers.old;
+            vf = vertex_floats.old;
+            en = edge_numbers.old;
+            ef = edge_floats.old;
+            us = uses.old;
+            ls = lengths.old;
+          };
+          vertices = vertices;
+          edges = edges;
+          wires = wires;
+        } in
+        let left : Slices = record {
+          vn = vertex_numbers.new;
+          vf = vertex_floats.new;
+          en = edge_numbers.new;
+          ef = edge_floats.new;
+          us = uses.new;
+          ls = lengths.new;
+        } in
+        record {
+          outcome : HostShell (outcome_of lent) before after left result;
+          middles : HostMiddles after left result;
+        } }
 {
     let mut vs = TableMut::new(vertex_numbers, vertex_floats, vertices);
     let mut es = TableMut::new(edge_numbers, edge_floats, edges);

@@ -1,5 +1,7 @@
 // The calls for hosts on wires and vertices: nearest ends, and the non-simple search.
-ghost use Rattle.correction.specs.Correction.{nearest_correction};
+ghost use Rattle.compress.specs.Shell.{Lent};
+ghost use Rattle.correction.specs.declared.nearest.Ends.{Ends};
+ghost use Rattle.correction.specs.Correction.{LentStretches, nearest_correction};
 ghost use Rattle.non_simple.specs.Search.{find_non_simple};
 ghost use Rattle.healing.specs.Host.{Told};
 
@@ -25,9 +27,22 @@ pub extern "C" fn kaugrenna_nearest_correction(
     v0_out: &mut u32,
     v1_out: &mut u32,
 ) -> i32
-    ensures { Told (nearest_correction vertex_numbers.now vertex_floats.now edge_numbers.now edge_floats.now
-        first.now second.now vertices edges first_count second_count v0)
-        (record { v0 = v0_out.old; v1 = v1_out.old }) (record { v0 = v0_out.new; v1 = v1_out.new }) result }
+    ensures { let before : Ends = record { v0 = v0_out.old; v1 = v1_out.old } in
+        let after : Ends = record { v0 = v0_out.new; v1 = v1_out.new } in
+        let lent : LentStretches = record {
+          vn = vertex_numbers.now;
+          vf = vertex_floats.now;
+          en = edge_numbers.now;
+          ef = edge_floats.now;
+          first = first.now;
+          second = second.now;
+          vertices = vertices;
+          edges = edges;
+          first_count = first_count;
+          second_count = second_count;
+          v0 = v0;
+        } in
+        Told (nearest_correction lent) before after result }
 {
     let tables = Tables {
         vertices: Table::new(vertex_numbers, vertex_floats, vertices),
@@ -61,9 +76,22 @@ pub extern "C" fn kaugrenna_find_non_simple_wire_divisor(
     v0_out: &mut u32,
     v1_out: &mut u32,
 ) -> i32
-    ensures { Told (find_non_simple vertex_numbers.now vertex_floats.now edge_numbers.now edge_floats.now
-        uses.now lengths.now vertices edges wires)
-        (record { v0 = v0_out.old; v1 = v1_out.old }) (record { v0 = v0_out.new; v1 = v1_out.new }) result }
+    ensures { let before : Ends = record { v0 = v0_out.old; v1 = v1_out.old } in
+        let after : Ends = record { v0 = v0_out.new; v1 = v1_out.new } in
+        let lent : Lent = record {
+          slices = record {
+            vn = vertex_numbers.now;
+            vf = vertex_floats.now;
+            en = edge_numbers.now;
+            ef = edge_floats.now;
+            us = uses.now;
+            ls = lengths.now;
+          };
+          vertices = vertices;
+          edges = edges;
+          wires = wires;
+        } in
+        Told (find_non_simple lent) before after result }
 {
     let tables = Tables {
         vertices: Table::new(vertex_numbers, vertex_floats, vertices),

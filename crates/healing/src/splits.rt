@@ -1,7 +1,8 @@
 // The call for hosts that splits boundaries along a divisor.
-ghost use Rattle.split.specs.split_causes.Causes.{lent_split};
+ghost use Rattle.split.specs.declared.Boundaries.{Boundaries};
+ghost use Rattle.split.specs.split_causes.Causes.{Buffers, LentSplit};
 ghost use Rattle.split.specs.Contract.{split_outcome};
-ghost use Rattle.healing.specs.Host.{HostBoundaries};
+ghost use Rattle.healing.specs.Host.{HostBoundaries, HostKeeps};
 
 use crate::codes;
 use rows::lent::Wires;
@@ -33,12 +34,28 @@ pub extern "C" fn kaugrenna_split_boundaries_by_divisor(
     uses_out: &mut usize,
     edges_out: &mut usize,
 ) -> i32
-    ensures { HostBoundaries
-        (split_outcome (lent_split edge_numbers.old edge_floats.old face_uses.now face_lengths.now rebuilt_uses.now rebuilt_lengths.now
-        divisor.now points.now uses.old lengths.old vertices edges face_wires rebuilt_wires divisor_count surface))
-        (record { wires = wires_out.old; uses = uses_out.old; edges = edges_out.old })
-        (record { wires = wires_out.new; uses = uses_out.new; edges = edges_out.new })
-        (record { en = edge_numbers.new; ef = edge_floats.new; us = uses.new; ls = lengths.new }) result }
+    ensures { let before : Boundaries = record { wires = wires_out.old; uses = uses_out.old; edges = edges_out.old } in
+        let after : Boundaries = record { wires = wires_out.new; uses = uses_out.new; edges = edges_out.new } in
+        let lent : LentSplit = record {
+          buffers = record { en = edge_numbers.old; ef = edge_floats.old; us = uses.old; ls = lengths.old };
+          face_uses = face_uses.now;
+          face_lengths = face_lengths.now;
+          rebuilt_uses = rebuilt_uses.now;
+          rebuilt_lengths = rebuilt_lengths.now;
+          divisor = divisor.now;
+          points = points.now;
+          vertices = vertices;
+          edges = edges;
+          face_wires = face_wires;
+          rebuilt_wires = rebuilt_wires;
+          stops = divisor_count;
+          surface = surface;
+        } in
+        let left : Buffers = record { en = edge_numbers.new; ef = edge_floats.new; us = uses.new; ls = lengths.new } in
+        record {
+          outcome : HostBoundaries (split_outcome lent) before after left result;
+          keeps_uses : HostKeeps lent before after left result;
+        } }
 {
     let mut table = TableMut::new(edge_numbers, edge_floats, edges);
     let face = Wires {

@@ -23,7 +23,8 @@ use Rattle.rows.specs.declared.lent.WiresMut.{WiresMut}
 use Rattle.rows.specs.declared.lent.Stretch.{Stretch}
 use Rattle.compress.specs.Refusals.{refusal_number}
 use Rattle.compress.proofs.Refused.{said_refused, said_checked}
-use Rattle.join.specs.Contract.{join_wires_cause, empty_cause, join_cause, join_outcome}
+use Rattle.join.specs.Contract.{LentJoin, join_wires_cause, empty_cause, join_cause, join_outcome}
+use Rattle.join.specs.Lent.{lent_mut}
 use Rattle.join.specs.Join.{connected}
 use Rattle.join.specs.joined.Outcome.{JoinOutcome, left, left_by}
 use Rattle.join.specs.laying.Steps.{Readable}
@@ -38,15 +39,17 @@ uses_rows v en ef e us n A h q k lt =
     rw (get_or-take n us k 0 g) (omega (arith, A.numbers), omega (arith, A.floats))
 
 -- ---- no cause
-pub causes_none : (en : List ℕ) (ef : List Float) (a b us ls : List ℕ) (v e n m k v0 v1 : ℕ) → join_cause en ef a b us ls v e n m k v0 v1 ≡ 0
-    → (edges_cause v en ef e ≡ 0) × (join_wires_cause e a n b m us ls k ≡ 0) × (empty_cause n m ≡ 0)
+pub causes_none : (l : LentJoin) → join_cause l ≡ 0
+    → (edges_cause l.vertices l.en l.ef l.edges ≡ 0)
+    × (join_wires_cause l.edges l.first l.first_count l.second l.second_count l.us l.ls l.wires ≡ 0)
+    × (empty_cause l.first_count l.second_count ≡ 0)
 unfolding join_cause
-causes_none en ef a b us ls v e n m k v0 v1 q =
-    let c₁ = lower_none (count_cause 4096 v) _ q in
-    let c₂ = lower_none (edges_cause v en ef e) _ c₁.1 in
-    let c₃ = lower_none (vertex_number_cause v v0) _ c₂.1 in
-    let c₄ = lower_none (vertex_number_cause v v1) _ c₃.1 in
-    let c₅ = lower_none (join_wires_cause e a n b m us ls k) (empty_cause n m) c₄.1 in
+causes_none l q =
+    let c₁ = lower_none (count_cause 4096 l.vertices) _ q in
+    let c₂ = lower_none (edges_cause l.vertices l.en l.ef l.edges) _ c₁.1 in
+    let c₃ = lower_none (vertex_number_cause l.vertices l.v0) _ c₂.1 in
+    let c₄ = lower_none (vertex_number_cause l.vertices l.v1) _ c₃.1 in
+    let c₅ = lower_none (join_wires_cause l.edges l.first l.first_count l.second l.second_count l.us l.ls l.wires) _ c₄.1 in
     (c₂.0, c₅.0, c₅.1)
 
 -- wires without a cause: e edges, two open wires of n and m uses, and k new ones
@@ -117,6 +120,9 @@ module _ (edges : Table Edge) (first second : Stretch) (w : WiresMut) (v v0 v1 :
   abbrev k : ℕ
   k = w.count
 
+  abbrev given : LentJoin
+  given = lent_mut v edges first second w v0 v1
+
   pub record JoinAccepted : Type 0 where
     pub first_size : length (take n a) ≡ n
     pub second_size : length (take m b) ≡ m
@@ -124,11 +130,11 @@ module _ (edges : Table Edge) (first second : Stretch) (w : WiresMut) (v v0 v1 :
     pub second_some : 0 < length (take m b)
     pub joinable : Joinable edges (take n a) (take m b) w
 
-  pub join_accepted : join_cause en ef a b us ls v e n m k v0 v1 ≡ 0 → JoinAccepted
+  pub join_accepted : join_cause given ≡ 0 → JoinAccepted
   unfolding empty_cause
   join_accepted q =
       let t = total (take k ls) in
-      let z = causes_none en ef a b us ls v e n m k v0 v1 q in
+      let z = causes_none given q in
       let x = lower_none (when (eqb n 0) 15) (when (eqb m 0) 15) z.2 in
       let W = wires_passed e a n b m us ls k z.1 in
       let A = edges_accepted v en ef e z.0 in
@@ -152,12 +158,11 @@ module _ (edges : Table Edge) (first second : Stretch) (w : WiresMut) (v v0 v1 :
       }
 
   -- the call: a refusal leaves the wires as they were, and without one it leaves what the join of the open wires leaves
-  pub join_refused : (r : Refusal) → refusal_number r ≡ join_cause en ef a b us ls v e n m k v0 v1
-      → left (Err r) w ≡ join_outcome en ef a b us ls v e n m k v0 v1
+  pub join_refused : (r : Refusal) → refusal_number r ≡ join_cause given → left (Err r) w ≡ join_outcome given
   unfolding join_outcome
   join_refused r q = ap (left_by w) (said_refused r _ _ q)
 
-  pub join_told : {o : JoinOutcome} → 0 ≡ join_cause en ef a b us ls v e n m k v0 v1
-      → o ≡ left_by w (connected (edge_at en ef) v0 v1 (take n a) (take m b) (wires_held w)) → o ≡ join_outcome en ef a b us ls v e n m k v0 v1
+  pub join_told : {o : JoinOutcome} → 0 ≡ join_cause given
+      → o ≡ left_by w (connected (edge_at en ef) v0 v1 (take n a) (take m b) (wires_held w)) → o ≡ join_outcome given
   unfolding join_outcome
   join_told q t = t ∙ ap (left_by w) (said_checked _ _ q)

@@ -7,21 +7,19 @@ use Prim.Native.Nat.{ℕ, ◌+◌, ◌<◌}
 use native.Mathlib.Omega.{arith}
 use borrow.Author.Tests.{ltb-true}
 use lib.Dec.{eqb, ltb}
-use lib.ListN.{length, get_or, set, take, length-append, length-drop, length-take, length-set}
+use lib.ListN.{length, get_or, set, length-append, length-drop, length-take, length-set}
 use lib.Seq.{get_or-set_same, get_or-set_other}
-use lib.Ieee.{Float}
 use Rattle.compress.specs.declared.Edge.{Edge}
 use Rattle.compress.specs.Records.{pick}
-use Rattle.compress.specs.Rows.{edge_at}
 use Rattle.compress.specs.Said.{Said, result, none, refused, on_result, refused_or}
 use Rattle.compress.specs.Shell.{uses_fit}
-use Rattle.compress.specs.Wires.{wires_of, uses_of, lengths_of, over}
+use Rattle.compress.specs.Wires.{uses_of, lengths_of, over}
 use Rattle.rows.specs.wires.Turn.{turned}
 use Rattle.join.specs.laying.Places.{index_of, wire_index_of, found_before, closed_by}
 use Rattle.join.specs.joined.Joined.{joined_at, joined_to}
 use Rattle.join.specs.Join.{connected_at, connected}
 use Rattle.join.specs.joined.Outcome.{JoinOutcome, stored_in, join_leaves}
-use Rattle.join.specs.Contract.{join_cause, join_outcome}
+use Rattle.join.specs.Contract.{LentJoin, join_cause, joined_in, join_outcome}
 
 -- however far a wire is turned
 size_turned : (i : ℕ) (w : List ℕ) → length (turned i w) ≡ length w
@@ -144,8 +142,6 @@ module _ (us ls : List ℕ) where
   leaves_keeps none = (refl, refl)
   leaves_keeps (refused n) = (refl, refl)
 
-  pub call_keeps : (en : List ℕ) (ef : List Float) (a b : List ℕ) (v e n m k v0 v1 : ℕ)
-      → Keeps us ls (join_outcome en ef a b us ls v e n m k v0 v1) (join_outcome en ef a b us ls v e n m k v0 v1).said
-  unfolding join_outcome
-  call_keeps en ef a b v e n m k v0 v1 =
-      leaves_keeps (refused_or (join_cause en ef a b us ls v e n m k v0 v1) (connected (edge_at en ef) v0 v1 (take n a) (take m b) (wires_of us (take k ls))))
+pub call_keeps : (l : LentJoin) → Keeps l.us l.ls (join_outcome l) (join_outcome l).said
+unfolding join_outcome
+call_keeps l = leaves_keeps l.us l.ls (refused_or (join_cause l) (joined_in l))

@@ -2,11 +2,27 @@
 use Rattle.std.specs.Prelude.{List, ℕ, ◌+◌, eqb, ltb, length, take, Float}
 use Rattle.compress.specs.Records.{pick}
 use Rattle.compress.specs.Rows.{edge_at}
-use Rattle.compress.specs.Said.{refused_or}
+use Rattle.compress.specs.Said.{Said, refused_or}
 use Rattle.compress.specs.Wires.{total, wires_of}
 use Rattle.checks.specs.Causes.{when, lower_of, count_cause, vertex_number_cause, edges_cause, uses_cause}
 use Rattle.join.specs.joined.Outcome.{JoinOutcome, join_leaves}
 use Rattle.join.specs.Join.{connected}
+
+-- what a call is lent: the edges, two open wires, the uses and the lengths of the new wires, a count of each, and the two vertices
+pub record LentJoin : Type 0 where
+  pub en : List ℕ
+  pub ef : List Float
+  pub first : List ℕ
+  pub second : List ℕ
+  pub us : List ℕ
+  pub ls : List ℕ
+  pub vertices : ℕ
+  pub edges : ℕ
+  pub first_count : ℕ
+  pub second_count : ℕ
+  pub wires : ℕ
+  pub v0 : ℕ
+  pub v1 : ℕ
 
 -- ---- causes
 
@@ -26,18 +42,21 @@ join_wires_cause edges a n b m us ls k =
 unfoldable pub empty_cause : ℕ → ℕ → ℕ
 empty_cause n m = lower_of (when (eqb n 0) 15) (when (eqb m 0) 15)
 
--- 1 to 5 and 15, over all that was lent: v vertices, e edges, two open wires of n and m uses, k new wires
-unfoldable pub join_cause : List ℕ → List Float → List ℕ → List ℕ → List ℕ → List ℕ → ℕ → ℕ → ℕ → ℕ → ℕ → ℕ → ℕ → ℕ
-join_cause en ef a b us ls v e n m k v0 v1 =
-    lower_of (count_cause 4096 v)
-    (lower_of (edges_cause v en ef e)
-    (lower_of (vertex_number_cause v v0)
-    (lower_of (vertex_number_cause v v1)
-    (lower_of (join_wires_cause e a n b m us ls k) (empty_cause n m)))))
+-- 1 to 5 and 15, over all that was lent
+unfoldable pub join_cause : LentJoin → ℕ
+join_cause l =
+    lower_of (count_cause 4096 l.vertices)
+    (lower_of (edges_cause l.vertices l.en l.ef l.edges)
+    (lower_of (vertex_number_cause l.vertices l.v0)
+    (lower_of (vertex_number_cause l.vertices l.v1)
+    (lower_of (join_wires_cause l.edges l.first l.first_count l.second l.second_count l.us l.ls l.wires) (empty_cause l.first_count l.second_count)))))
 
 -- ---- the call
 
-unfoldable pub join_outcome : List ℕ → List Float → List ℕ → List ℕ → List ℕ → List ℕ → ℕ → ℕ → ℕ → ℕ → ℕ → ℕ → ℕ → JoinOutcome
-join_outcome en ef a b us ls v e n m k v0 v1 =
-    join_leaves us ls
-    (refused_or (join_cause en ef a b us ls v e n m k v0 v1) (connected (edge_at en ef) v0 v1 (take n a) (take m b) (wires_of us (take k ls))))
+-- the join of the wires that lie in the slices
+abbrev pub joined_in : LentJoin → Said (List (List ℕ))
+joined_in l =
+    connected (edge_at l.en l.ef) l.v0 l.v1 (take l.first_count l.first) (take l.second_count l.second) (wires_of l.us (take l.wires l.ls))
+
+unfoldable pub join_outcome : LentJoin → JoinOutcome
+join_outcome l = join_leaves l.us l.ls (refused_or (join_cause l) (joined_in l))

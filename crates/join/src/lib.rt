@@ -12,6 +12,7 @@ ghost use Rattle.join.specs.joined.Outcome.{left, left_by};
 ghost use Rattle.join.specs.joined.Steps.{Joinable};
 ghost use Rattle.join.specs.Join.{connected_at, connected};
 ghost use Rattle.join.specs.Contract.{join_wires_cause, empty_cause, join_cause, join_outcome};
+ghost use Rattle.join.specs.Lent.{lent, lent_mut};
 
 use crate::laying::Joint;
 use crate::laying::turned::TurnedWire;
@@ -108,12 +109,7 @@ fn join_cause(
     v0: u32,
     v1: u32,
 ) -> Checked
-    ensures { let e = edges.now in
-        let a = first.now in
-        let b = second.now in
-        let w = wires.now in
-        cause_of result ≡ join_cause e.numbers.now e.floats.now a.uses.now b.uses.now w.uses.now w.lengths.now
-        vertices e.count a.count b.count w.count v0 v1 }
+    ensures { cause_of result ≡ join_cause (lent vertices edges.now first.now second.now wires.now v0 v1) }
 {
     let v = checks::count(4096, vertices);
     let e = checks::tables::edges(vertices, edges);
@@ -138,12 +134,7 @@ pub fn connect_open_boundaries(
     v0: u32,
     v1: u32,
 ) -> Result<Option<usize>, Refusal>
-    ensures outcome { let e = edges.now in
-        let a = first.now in
-        let b = second.now in
-        let w = wires.old in
-        left result wires.new ≡ join_outcome e.numbers.now e.floats.now a.uses.now b.uses.now w.uses.now w.lengths.now
-        vertices e.count a.count b.count w.count v0 v1 }
+    ensures outcome { left result wires.new ≡ join_outcome (lent_mut vertices edges.now first.now second.now wires.old v0 v1) }
     ensures same { SameWires wires.old wires.new }
 {
     join_cause(vertices, edges, first, second, &wires.view(), v0, v1)?;

@@ -7,7 +7,6 @@ use mathlib.Core.List.{List, [], ◌∷◌, ◌++◌, Memᴰ}
 use Prim.Native.Nat.{ℕ, zero, suc, ◌+◌, ◌-◌}
 use lib.Dec.{ltb}
 use lib.ListN.{length, get_or, take, drop}
-use lib.Ieee.{Float}
 use Rattle.compress.specs.declared.Edge.{Edge}
 use Rattle.compress.specs.declared.Vertex.{Vertex}
 use Rattle.compress.specs.Records.{pick, front_at}
@@ -22,7 +21,8 @@ use Rattle.std.specs.Prelude.{Option, Some, None}
 use Rattle.non_simple.specs.declared.loops.Pair.{Pair}
 use Rattle.non_simple.specs.loops.Loop.{first_repeat}
 use Rattle.non_simple.specs.divisor.Divided.{half_up, second_pair, stretch, divided_by, turned_divisor}
-use Rattle.non_simple.specs.Search.{divisor_from, wire_divisor, or_next, find_divisor, search_cause, find_non_simple}
+use Rattle.compress.specs.Shell.{Lent}
+use Rattle.non_simple.specs.Search.{divisor_from, wire_divisor, or_next, find_divisor, search_cause, divisor_in, find_non_simple}
 
 module _ (es : ℕ → Edge) (vs : ℕ → Vertex) where
   -- vertex v is the front of a use of the wire
@@ -149,11 +149,11 @@ module _ (es : ℕ → Edge) (vs : ℕ → Vertex) where
   refused_named (suc n) ws s m = tt
 
 -- the call: what it answers are fronts of uses of one of the wires lent
-pub call_named : (vn : List ℕ) (vf : List Float) (en : List ℕ) (ef : List Float) (us ls : List ℕ) (v e n : ℕ)
-    → NamesOne (edge_at en ef) (vertex_at vn vf) (wires_of us (take n ls)) (find_non_simple vn vf en ef us ls v e n)
+pub call_named : (l : Lent)
+    → NamesOne (edge_at l.slices.en l.slices.ef) (vertex_at l.slices.vn l.slices.vf) (wires_of l.slices.us (take l.wires l.slices.ls)) (find_non_simple l)
 unfolding find_non_simple
-call_named vn vf en ef us ls v e n =
-    let es = edge_at en ef in
-    let vs = vertex_at vn vf in
-    let ws = wires_of us (take n ls) in
-    refused_named es vs (search_cause vn vf en ef us ls v e n) ws (find_divisor es vs ws) (search_named es vs ws)
+call_named l =
+    let es = edge_at l.slices.en l.slices.ef in
+    let vs = vertex_at l.slices.vn l.slices.vf in
+    let ws = wires_of l.slices.us (take l.wires l.slices.ls) in
+    refused_named es vs (search_cause l) ws (divisor_in l) (search_named es vs ws)

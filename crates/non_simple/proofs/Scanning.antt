@@ -27,6 +27,7 @@ use Rattle.correction.specs.declared.nearest.Ends.{Ends}
 use Rattle.correction.specs.declared.nearest.sound.SoundTables.{SoundTables}
 use Rattle.non_simple.specs.divisor.Wires.{IsWire}
 use Rattle.checks.specs.points.Tables.{tables_cause}
+use Rattle.compress.specs.Shell.{Lent}
 use Rattle.non_simple.specs.Search.{wire_divisor, or_next, find_divisor, search_cause}
 
 -- ---- a wire that is turned
@@ -93,9 +94,12 @@ pub scanning_done : (es : ℕ → Edge) (vs : ℕ → Vertex) (m : ℕ) (w : Wir
 unfolding find_divisor
 scanning_done es vs m w s S e = rw e at S.is
 
--- ---- the call's causes
+-- ---- the call's causes, by each field, as a search finds them
 module _ (vn : List ℕ) (vf : List Float) (en : List ℕ) (ef : List Float) (us ls : List ℕ) (v e n : ℕ) where
-  pub search_accepted : search_cause vn vf en ef us ls v e n ≡ 0 → TablesAccepted vn vf en ef v e × (wires_cause e us ls n ≡ 0)
+  abbrev lent_by : Lent
+  lent_by = record { slices = record { vn = vn; vf = vf; en = en; ef = ef; us = us; ls = ls }; vertices = v; edges = e; wires = n }
+
+  pub search_accepted : search_cause lent_by ≡ 0 → TablesAccepted vn vf en ef v e × (wires_cause e us ls n ≡ 0)
   unfolding search_cause
   search_accepted q =
       let a = lower_none (tables_cause vn vf en ef v e) (wires_cause e us ls n) q in

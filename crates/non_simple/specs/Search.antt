@@ -1,9 +1,10 @@
 -- Non-simple wire (`non_simple_wire_divisor`, `find_non_simple_wire_divisor`). Edges and vertices are given by number. Definitions only.
-use Rattle.std.specs.Prelude.{List, [], ◌∷◌, ℕ, ◌-◌, Option, Some, None, take, Float}
+use Rattle.std.specs.Prelude.{List, [], ◌∷◌, ℕ, ◌-◌, Option, Some, None, take}
 use Rattle.compress.specs.declared.Edge.{Edge}
 use Rattle.compress.specs.declared.Vertex.{Vertex}
 use Rattle.compress.specs.Rows.{edge_at, vertex_at}
 use Rattle.compress.specs.Said.{Said, result, none, refused, refused_or}
+use Rattle.compress.specs.Shell.{Lent}
 use Rattle.compress.specs.Wires.{wires_of}
 use Rattle.checks.specs.Causes.{lower_of, wires_cause}
 use Rattle.rows.specs.wires.Turn.{turned}
@@ -33,9 +34,13 @@ find_divisor es vs [] = none
 find_divisor es vs (w ∷ ws) = or_next (wire_divisor es vs w) (find_divisor es vs ws)
 
 -- ---- the call
-unfoldable pub search_cause : List ℕ → List Float → List ℕ → List Float → List ℕ → List ℕ → ℕ → ℕ → ℕ → ℕ
-search_cause vn vf en ef us ls v e n = lower_of (tables_cause vn vf en ef v e) (wires_cause e us ls n)
+unfoldable pub search_cause : Lent → ℕ
+search_cause l =
+    lower_of (tables_cause l.slices.vn l.slices.vf l.slices.en l.slices.ef l.vertices l.edges) (wires_cause l.edges l.slices.us l.slices.ls l.wires)
 
-unfoldable pub find_non_simple : List ℕ → List Float → List ℕ → List Float → List ℕ → List ℕ → ℕ → ℕ → ℕ → Said Ends
-find_non_simple vn vf en ef us ls v e n =
-    refused_or (search_cause vn vf en ef us ls v e n) (find_divisor (edge_at en ef) (vertex_at vn vf) (wires_of us (take n ls)))
+-- the wires that lie in the slices, searched in order
+abbrev pub divisor_in : Lent → Said Ends
+divisor_in l = find_divisor (edge_at l.slices.en l.slices.ef) (vertex_at l.slices.vn l.slices.vf) (wires_of l.slices.us (take l.wires l.slices.ls))
+
+unfoldable pub find_non_simple : Lent → Said Ends
+find_non_simple l = refused_or (search_cause l) (divisor_in l)

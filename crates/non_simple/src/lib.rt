@@ -12,6 +12,7 @@ ghost use Rattle.checks.specs.Causes.{wires_cause};
 ghost use Rattle.non_simple.specs.divisor.Divided.{turned_divisor};
 ghost use Rattle.non_simple.specs.divisor.Wires.{IsWire};
 ghost use Rattle.non_simple.specs.Search.{wire_divisor, find_divisor, search_cause, find_non_simple};
+ghost use Rattle.non_simple.specs.Lent.{lent};
 ghost use Rattle.rows.specs.wires.Turn.{turned};
 
 use crate::divisor::doubled::Doubled;
@@ -100,11 +101,7 @@ fn search_wires(
 
 #[tactic(auto, unfolding(crate::specs::Search::search_cause))]
 fn search_cause(tables: &Tables, wires: &Wires) -> Checked
-    ensures { let v = tables.now.vertices in
-        let e = tables.now.edges in
-        let w = wires.now in
-        cause_of result ≡ search_cause v.numbers.now v.floats.now e.numbers.now e.floats.now
-        w.uses.now w.lengths.now v.count e.count w.count }
+    ensures { cause_of result ≡ search_cause (lent tables.now wires.now) }
 {
     let t = checks::points::tables_cause(tables);
     let w = checks::wires(tables.edges.count, wires);
@@ -114,11 +111,7 @@ fn search_cause(tables: &Tables, wires: &Wires) -> Checked
 // `find_non_simple_wire_divisor`: of the wires in order the first that can be divided, by the two vertices between which it is.
 #[tactic(auto, using(crate::proofs::Scanning::checked), unfolding(crate::specs::Search::find_non_simple))]
 pub fn find_non_simple_wire_divisor(tables: &Tables, wires: &Wires) -> Result<Option<Ends>, Refusal>
-    ensures { let v = tables.now.vertices in
-        let e = tables.now.edges in
-        let w = wires.now in
-        said_if (λ e. e) result ≡ find_non_simple v.numbers.now v.floats.now e.numbers.now e.floats.now
-        w.uses.now w.lengths.now v.count e.count w.count }
+    ensures { said_if (λ e. e) result ≡ find_non_simple (lent tables.now wires.now) }
 {
     search_cause(tables, wires)?;
     let tables = SoundTables {

@@ -9,8 +9,8 @@ use Prim.Native.Nat.{ℕ, ◌+◌, ◌<◌}
 use lib.Dec.{T}
 use lib.ListN.{length, get_or, take}
 use lib.Ieee.{Float, binary64, lt, le}
-use Rattle.floats.specs.Value.{Held}
-use Rattle.floats.specs.Mono.{nlt→le, le_self, le_trans_held}
+use Rattle.floats.proofs.Value.{Held}
+use Rattle.floats.proofs.Mono.{nlt→le, le_self, le_trans_held}
 use Rattle.compress.specs.Records.{pick}
 use Rattle.compress.specs.Choice.{smaller, smallest}
 use Rattle.compress.proofs.Cells.{take_more}

@@ -10,10 +10,10 @@ use lib.Dec.{T, lit<, lit≤}
 use lib.Ieee.{Float, binary64, add, sub, mul, neg, lt, le, fits, of_bits}
 use Rattle.std.specs.Prelude.{Option, Some, None}
 use Rattle.compress.specs.Constants.{zero64, one64, two64}
-use Rattle.floats.specs.Value.{Held}
-use Rattle.floats.specs.Rounds.{neg_held}
-use Rattle.floats.specs.Bounds.{Under, weaken, add_under, sub_under, mul_under}
-use Rattle.floats.specs.Mono.{neg_mag}
+use Rattle.floats.proofs.Value.{Held}
+use Rattle.floats.proofs.Rounds.{neg_held}
+use Rattle.floats.proofs.Bounds.{Under, weaken, add_under, sub_under, mul_under}
+use Rattle.floats.proofs.Mono.{neg_mag}
 use Rattle.floats.proofs.Sized.{Sized, sized_under}
 use Rattle.floats.proofs.Distance.{distance2_uv_under}
 use Rattle.compress.specs.declared.Uv.{Uv}

@@ -1,7 +1,7 @@
 -- Unwrapping (`get_mindiff`): of five candidates the one nearest to u0. Definitions only.
 use Rattle.std.specs.Prelude.{List, [], ◌∷◌, ℕ, Option, Some, None, Float}
 use Rattle.std.specs.Float.{binary64}
-use Rattle.std.specs.Float.Ieee.{add, sub, mul, neg, lt, of_bits}
+use Rattle.std.specs.Float.Ieee.{add, sub, mul, neg, lt}
 use Rattle.compress.specs.Constants.{zero64, one64, two64}
 use Rattle.compress.specs.Records.{pick}
 use Rattle.compress.specs.Said.{Said, result, refused_or}

@@ -1,8 +1,8 @@
 -- Demand 3: every split keeps each directed use, whatever it is lent. Assumes nothing.
 use mathlib.Core.Path.{◌≡◌, refl, ap, sym, subst, ◌∙◌}
 use mathlib.Core.Bool.{Bool, true, false, ◌&&◌}
-use mathlib.Core.List.{List, ◌∷◌}
-use mathlib.Core.Logic.{◌≢◌, ⊎_elim}
+use mathlib.Core.List.{List, [], ◌∷◌}
+use mathlib.Core.Logic.{◌≢◌, ◌⊎◌, inl, inr, ⊎_elim}
 use Prim.Native.Nat.{ℕ, zero, suc, ◌+◌, ◌*◌, ◌/◌, ◌≤◌, ◌<◌}
 use native.Mathlib.Omega.{arith}
 use borrow.Author.Tests.{ltb-true, ltb-false, leb-true, leb-false, eqb-true, eqb-false, ne_eqb}
@@ -15,7 +15,7 @@ use Rattle.compress.specs.Wires.{uses_of}
 use Rattle.compress.proofs.Refused.{refused_never, result_told}
 use Rattle.compress.proofs.Wires.{wires_stored}
 use Rattle.walk.specs.Walk.{Answer, wires}
-use Rattle.walk.specs.lists.Members.{count}
+use Rattle.walk.specs.lists.Members.{count, sits}
 use Rattle.walk.specs.Walk as walk
 use Rattle.walk.specs.Claim.{Claimed}
 use Rattle.walk.proofs.lists.Counts.{bit, count_cons, count_append}
@@ -24,10 +24,10 @@ use Rattle.walk.specs.marks.Marks.{new_uses}
 use Rattle.split.specs.declared.Boundaries.{Boundaries}
 use Rattle.split.specs.Split.{seams, edges_after, marked_in, uses_to_walk, split_wires}
 use Rattle.split.specs.Contract.{given_in, SplitOutcome, split_stored, turned_away, after_walk, split_outcome}
-use Rattle.split.specs.split_causes.Causes.{LentSplit, split_cause}
-use Rattle.split.specs.Demand.{front_in, back_in, fronts_at, backs_at, counted, KeepsUses}
+use Rattle.split.specs.split_causes.Causes.{Buffers, LentSplit, split_cause}
+use Rattle.split.specs.Demand.{front_in, back_in, fronts_at, backs_at, Balanced, AtMostTwo, counted, Kept, KeepsUses}
 use Rattle.split.proofs.split_causes.Accepted.{split_checked}
-use Rattle.split.proofs.Fronts.{length_seams, length_edges, uses_known, front_below}
+use Rattle.split.proofs.Fronts.{length_seams, length_edges, uses_known, front_below, back_below}
 
 -- ---- the uses of new edges, counted
 
@@ -96,6 +96,12 @@ counted_all l u =
     ∙ ap (λ (n : ℕ). count (eqb u) (given_in l).rebuilt + n)
     (count_new u (length (given_in l).edges) (length (seams (given_in l))) ∙ rw (length_edges l, length_seams l))
 
+-- none of the uses passes a test: they are counted as 0
+none_pass : (p : ℕ → Bool) (us : List ℕ) → ((k : ℕ) → k < length us → p (get_or us k 0) ≡ false) → count p us ≡ 0
+none_pass p [] h = refl
+none_pass p (u ∷ us) h =
+    omega (arith, count_cons p u us, ap bit (h 0 (omega arith)), none_pass p us (λ k g. h (suc k) (omega arith)))
+
 -- ---- the outcome
 
 module _ (l : LentSplit) where
@@ -105,9 +111,7 @@ module _ (l : LentSplit) where
       record {
         succeeds = λ q even few. absurd (omega arith);
         refuses = λ q v ne. absurd (omega arith);
-        each = λ c p. absurd (refused_never (suc n) p);
-        all = λ c p. absurd (refused_never (suc n) p);
-        wire = λ c p. absurd (refused_never (suc n) p);
+        kept = λ c p. absurd (refused_never (suc n) p);
         no_dead_end = λ q even p. omega arith;
       }
 
@@ -117,28 +121,56 @@ module _ (l : LentSplit) where
         let a = (split_checked l none).accepted in
         front_below l a (get_or (uses_to_walk (given_in l)) k 0) (uses_known l a k h)
 
+    fits_back : (k : ℕ) → k < length (uses_to_walk (given_in l)) → back_in l (get_or (uses_to_walk (given_in l)) k 0) < l.vertices
+    fits_back k h =
+        let a = (split_checked l none).accepted in
+        back_below l a (get_or (uses_to_walk (given_in l)) k 0) (uses_known l a k h)
+
+    -- a number that is no vertex has no uses
+    beyond : (v : ℕ) → l.vertices ≤ v → (fronts_at l v ≡ 0) × (backs_at l v ≡ 0)
+    beyond v h = (
+      none_pass (sits (front_in l) v) (uses_to_walk (given_in l)) (λ k g. ne_eqb _ v (λ e. omega (arith, fits k g))),
+      none_pass (sits (back_in l) v) (uses_to_walk (given_in l)) (λ k g. ne_eqb _ v (λ e. omega (arith, fits_back k g))),
+    )
+
+    -- so what is asked of the vertices holds of every number
+    all_balanced : Balanced l → (v : ℕ) → fronts_at l v ≡ backs_at l v
+    all_balanced even v = go (ltb v l.vertices) refl
+      where
+        go : (b : Bool) → ltb v l.vertices ≡ b → fronts_at l v ≡ backs_at l v
+        go true q = even v (ltb-true v l.vertices q)
+        go false q = let y = beyond v (ltb-false v l.vertices q) in y.0 ∙ sym y.1
+
+    all_few : AtMostTwo l → (v : ℕ) → fronts_at l v ≤ 2
+    all_few few v = go (ltb v l.vertices) refl
+      where
+        go : (b : Bool) → ltb v l.vertices ≡ b → fronts_at l v ≤ 2
+        go true q = few v (ltb-true v l.vertices q)
+        go false q = omega (arith, (beyond v (ltb-false v l.vertices q)).0)
+
     claimed : Claimed (front_in l) (back_in l) (uses_to_walk (given_in l)) (split_wires (given_in l))
     unfolding split_wires given_in
     claimed = table_theorem l.vertices (front_in l) (back_in l) (marked_in (given_in l)) (uses_to_walk (given_in l)) fits
 
-    not_eleven : ((v : ℕ) → fronts_at l v ≡ backs_at l v) → split_wires (given_in l) ≢ walk.refused 11
+    not_eleven : Balanced l → split_wires (given_in l) ≢ walk.refused 11
     unfolding split_wires given_in
-    not_eleven = table_balanced l.vertices (front_in l) (back_in l) (marked_in (given_in l)) (uses_to_walk (given_in l)) fits
+    not_eleven even = table_balanced l.vertices (front_in l) (back_in l) (marked_in (given_in l)) (uses_to_walk (given_in l)) fits (all_balanced even)
 
     -- the walk refuses
     keeps_refused : (n : ℕ) → split_wires (given_in l) ≡ walk.refused n → KeepsUses l (record { said = refused n; buffers = l.buffers })
     keeps_refused n e =
         record {
-          succeeds = λ q even few. absurd (no_wires (claimed.succeeds even few).0 (claimed.succeeds even few).1);
-          refuses = λ q v ne. (n, refl);
-          each = λ c p. absurd (refused_never n p);
-          all = λ c p. absurd (refused_never n p);
-          wire = λ c p. absurd (refused_never n p);
+          succeeds = λ q even few. let w = claimed.succeeds (all_balanced even) (all_few few) in absurd (no_wires w.0 w.1);
+          refuses = λ q v ne. ⊎_elim (λ p. inl (ap refused (number 11 p))) (λ p. inr (ap refused (number 12 p))) (claimed.refuses v ne);
+          kept = λ c p. absurd (refused_never n p);
           no_dead_end = λ q even p. not_eleven even (e ∙ ap walk.refused (same p));
         }
       where
         same : ◌≡◌ {A = Said Boundaries} (refused n) (refused 11) → n ≡ 11
         same p = cc
+
+        number : (m : ℕ) → split_wires (given_in l) ≡ walk.refused m → n ≡ m
+        number m p = cc
 
         no_wires : (ws : List (List ℕ)) → split_wires (given_in l) ≡ wires ws → ⊥
         no_wires ws p = let z : ◌≡◌ {A = ℕ} 0 1 = cc in omega arith
@@ -150,10 +182,7 @@ module _ (l : LentSplit) where
         record {
           succeeds = λ q even few. (_, refl);
           refuses = λ q v ne. absurd (⊎_elim (never 11) (never 12) (claimed.refuses v ne));
-          each = λ c p u. rw (sym (result_told said c p), wires_stored ws l.buffers.us l.buffers.ls) (told u);
-          all = λ c p. rw (sym (result_told said c p), wires_stored ws l.buffers.us l.buffers.ls) (sym (take-append_seam (uses_of ws) _));
-          wire = λ c p i h.
-              rw (sym (result_told said c p), wires_stored ws l.buffers.us l.buffers.ls) (claimed.wire ws e i (subst (λ (d : Boundaries). i < d.wires) (sym (result_told said c p)) h));
+          kept = λ c p. subst (λ (d : Boundaries). Kept l d stored) (result_told said c p) kept;
           no_dead_end = λ q even. other;
         }
       where
@@ -166,8 +195,16 @@ module _ (l : LentSplit) where
         other : ◌≡◌ {A = Said Boundaries} (result said) (refused 11) → ⊥
         other p = let z : ◌≡◌ {A = ℕ} 0 1 = cc in omega arith
 
-        told : (u : ℕ) → count (eqb u) (uses_of ws) ≡ counted l u
-        told u = claimed.each ws e u ∙ counted_all l u
+        stored : Buffers
+        stored = (split_stored (given_in l) l.buffers ws).buffers
+
+        kept : Kept l said stored
+        kept =
+            record {
+              each = λ u. rw (wires_stored ws l.buffers.us l.buffers.ls) (claimed.each ws e u ∙ counted_all l u);
+              all = rw (wires_stored ws l.buffers.us l.buffers.ls) (sym (take-append_seam (uses_of ws) _));
+              wire = λ i h. rw (wires_stored ws l.buffers.us l.buffers.ls) (claimed.wire ws e i h);
+            }
 
     keeps_answer : (a : Answer) → split_wires (given_in l) ≡ a → KeepsUses l (after_walk (given_in l) l.buffers a)
     keeps_answer (wires ws) e = keeps_wires ws e
@@ -184,3 +221,15 @@ module _ (l : LentSplit) where
   -- and so does a call that leaves what the contract says
   pub call_keeps : (o : SplitOutcome) → o ≡ split_outcome l → KeepsUses l o
   call_keeps o e = subst (KeepsUses l) (sym e) split_keeps
+
+  -- a split has a result, or leaves the slices as they were
+  left_by : (n : ℕ) (a : Answer) → let o = cause_or n (turned_away l.buffers) (after_walk (given_in l) l.buffers a) in
+      ((c : Boundaries) × (o.said ≡ result c)) ⊎ (o.buffers ≡ l.buffers)
+  unfolding split_stored
+  left_by zero (wires ws) = inl (_, refl)
+  left_by zero (walk.refused n) = inr refl
+  left_by (suc n) a = inr refl
+
+  pub split_leaves : ((c : Boundaries) × ((split_outcome l).said ≡ result c)) ⊎ ((split_outcome l).buffers ≡ l.buffers)
+  unfolding split_outcome
+  split_leaves = left_by (split_cause l) (split_wires (given_in l))

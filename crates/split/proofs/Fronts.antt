@@ -195,3 +195,12 @@ module _ (l : LentSplit) where
             → pick b (edge_after (given_in l) (u / 2)).front (edge_after (given_in l) (u / 2)).back < l.vertices
         go true r = r.0
         go false r = r.1
+
+    pub back_below : (u : ℕ) → u / 2 < l.edges + pairs l → back_after (given_in l) u < l.vertices
+    unfolding back_at back_of
+    back_below u h = go (eqb (u % 2) 0) (ends_below (u / 2) h)
+      where
+        go : (b : Bool) → ((edge_after (given_in l) (u / 2)).front < l.vertices) × ((edge_after (given_in l) (u / 2)).back < l.vertices)
+            → pick b (edge_after (given_in l) (u / 2)).back (edge_after (given_in l) (u / 2)).front < l.vertices
+        go true r = r.1
+        go false r = r.0

@@ -1,9 +1,7 @@
 -- Worked examples of the split. Assumes nothing.
 use Rattle.std.specs.Prelude.{◌≡◌, refl, List, [], ◌∷◌, ℕ, Float}
-use Rattle.std.specs.Float.{binary64}
-use Rattle.std.specs.Float.Ieee.{of_bits}
 use Rattle.compress.specs.Constants.{zero64, one64, two64, four64}
-use Rattle.compress.specs.declared.Curve.TheVariants.{Span, Seam}
+use Rattle.compress.specs.declared.Curve.TheVariants.{Seam}
 use Rattle.compress.specs.declared.Edge.{Edge}
 use Rattle.compress.specs.Worked.{between, k9_edges, k9_wire}
 use Rattle.compress.specs.Records.{front_of, back_of, front_at, back_at}

@@ -21,7 +21,8 @@ use Rattle.compress.proofs.Layouts.{length_rows}
 use Rattle.std.proofs.lemmas.Bool.{and_parts}
 use Rattle.compress.proofs.Room.{vertices_room, edges_room}
 use Rattle.compress.proofs.Refused.{cause_met}
-use Rattle.checks.specs.Causes.{wires_cause}
+use Rattle.checks.specs.Causes.{vertex_number_cause, curve_cause, edge_cause, wires_cause}
+use Rattle.checks.proofs.Lowest.{lower_none}
 use Rattle.split_closed_edges.specs.add_edges.Add.{next, new_edge, new_vertex, kept_edges, new_edges, new_vertices, added_to}
 use Rattle.cutting.specs.mending.Replace.{replace_wires}
 use Rattle.split_closed_edges.specs.Pass.{split_closed_edges}
@@ -121,6 +122,11 @@ module _ (en : List ℕ) (edges : ℕ) (us ls : List ℕ) (wires room : ℕ) (be
   pub closed_full : (e : NoRoom) → r ≡ Err e → ClosedMended en edges wires room us ls us' ls' (Err e)
   closed_full e q = record { cut = λ ef. tt; mended = λ ef. rw q at (by_map ef) }
 
+-- the curve of an edge without a cause has none
+edge_passes : (v : ℕ) (e : Edge) → edge_cause v e ≡ 0 → curve_cause e.curve ≡ 0
+unfolding edge_cause
+edge_passes v e q = (lower_none (vertex_number_cause v e.back) _ (lower_none (vertex_number_cause v e.front) _ q).1).1
+
 -- ---- the ways out of the call
 
 module _ (vn : List ℕ) (vf : List Float) (en : List ℕ) (ef : List Float) (us ls : List ℕ) (v e w : ℕ) where
@@ -201,6 +207,8 @@ module _ (vn : List ℕ) (vf : List Float) (en : List ℕ) (ef : List Float) (us
             edge_numbers = omega arith;
             edge_floats = omega arith;
             kinds = A.edges.kinds;
+            vertices = A.vertices.rows;
+            curves = λ j h. edge_passes v (edge_at en ef j) (A.edges.rows j h);
           }
 
     -- what `add_edges` left is the result, stored

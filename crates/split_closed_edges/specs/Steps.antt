@@ -1,7 +1,11 @@
 -- What the mending of the wires in the closed-edge pass asks and leaves. Definitions only.
 use Rattle.std.specs.Prelude.{◌≡◌, Result, Ok, Err, IfOk, List, ℕ, leb, Float, length, take}
+use Rattle.compress.specs.declared.Counts.{Counts}
 use Rattle.compress.specs.declared.Edge.{Edge}
+use Rattle.compress.specs.declared.Refusal.{Refusal}
+use Rattle.compress.specs.declared.Vertex.{Vertex}
 use Rattle.rows.specs.declared.tables.Table.{Table}
+use Rattle.rows.specs.declared.tables.TableMut.{TableMut}
 use Rattle.rows.specs.declared.lent.WiresMut.{WiresMut}
 use Rattle.compress.specs.Layout.{rows}
 use Rattle.compress.specs.Rows.{edge_at}
@@ -10,7 +14,7 @@ use Rattle.cutting.specs.mending.Replace.{replace_wires}
 use Rattle.cutting.specs.declared.mending.NoRoom.{NoRoom}
 use Rattle.cutting.specs.mending.Steps.{InPlace}
 use Rattle.split_closed_edges.specs.add_edges.Add.{added_to}
-use Rattle.split_closed_edges.specs.add_edges.Steps.{closed_count}
+use Rattle.split_closed_edges.specs.add_edges.Steps.{closed_count, VerticesPass}
 use Rattle.split_closed_edges.specs.declared.Closing.{Closing}
 
 -- how many edges are closed
@@ -32,3 +36,7 @@ pub record ClosedMended (en : List ℕ) (edges wires room : ℕ) (us ls us' ls' 
 abbrev pub closed_mended : Table Edge → ℕ → WiresMut → WiresMut → Result Closing NoRoom → Type 0
 closed_mended edges room before after r =
     ClosedMended edges.numbers.now edges.count before.count room before.uses.now before.lengths.now after.uses.now after.lengths.now r
+
+-- "The midpoint never leaves the range from t0 to t1", said of what the pass leaves: where it tells counts, no vertex below them has a cause
+abbrev pub MiddlesWithin : Result Counts Refusal → TableMut Vertex → Type 0
+MiddlesWithin r v = IfOk r (λ c. VerticesPass v.numbers.now v.floats.now c.vertices)

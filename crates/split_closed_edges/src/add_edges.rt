@@ -2,6 +2,8 @@
 
 ghost use Rattle.std.specs.Prelude.{◌≡◌, true, List, Float, ◌+◌, ◌*◌, ◌≤◌, ◌<◌, length};
 ghost use Rattle.compress.specs.Records.{closed};
+ghost use Rattle.checks.specs.Causes.{curve_cause, vertex_cause};
+ghost use Rattle.cutting.specs.cut_edge.Cut.{pending_of};
 ghost use Rattle.rows.specs.Held.{edge_in};
 ghost use Rattle.rows.specs.Places.{SameTable};
 ghost use Rattle.compress.specs.Layout.{rows};
@@ -27,6 +29,8 @@ fn add_edge(
         let e = edges.old in
         closed (edge_in e i) ≡ true → PlaceFor n m v.numbers.now v.floats.now e.numbers.now e.floats.now }
     ensures value { result ≡ closed (edge_in edges.old i) }
+    ensures accepted { let e = edge_in edges.old i in
+        result ≡ true → curve_cause e.curve ≡ 0 → vertex_cause (pending_of e) ≡ 0 }
     ensures vertex_numbers_after { let e = edge_in edges.old i in
         vertices.new.numbers.now ≡ pending_row vertex_number_layout result n e vertices.old.numbers.now }
     ensures vertex_floats_after { let e = edge_in edges.old i in

@@ -8,7 +8,7 @@ ghost use Rattle.checks.specs.Causes.{wires_cause};
 ghost use Rattle.rows.specs.Places.{SameTable, SameWires};
 ghost use Rattle.cutting.specs.Contract.{input_cause};
 ghost use Rattle.cutting.specs.Lent.{lent, left};
-ghost use Rattle.split_closed_edges.specs.Steps.{closed_mended};
+ghost use Rattle.split_closed_edges.specs.Steps.{closed_mended, MiddlesWithin};
 ghost use Rattle.split_closed_edges.specs.Contract.{outcome_of};
 ghost use Rattle.compress.specs.Rows.{numbers_per_edge};
 
@@ -64,6 +64,7 @@ fn split_checked(
 ) -> Result<Counts, Refusal>
     requires { input_cause (lent vertices.old edges.old wires.old) ≡ 0 }
     ensures outcome { left result vertices.new edges.new wires.new ≡ outcome_of (lent vertices.old edges.old wires.old) }
+    ensures middles { MiddlesWithin result vertices.new }
     ensures same_vertices { SameTable vertices.old vertices.new }
     ensures same_edges { SameTable edges.old edges.new }
     ensures same_wires { SameWires wires.old wires.new }
@@ -86,6 +87,7 @@ pub fn split_closed_edges(
     wires: &mut WiresMut,
 ) -> Result<Counts, Refusal>
     ensures outcome { left result vertices.new edges.new wires.new ≡ outcome_of (lent vertices.old edges.old wires.old) }
+    ensures middles { MiddlesWithin result vertices.new }
     ensures same_vertices { SameTable vertices.old vertices.new }
     ensures same_edges { SameTable edges.old edges.new }
     ensures same_wires { SameWires wires.old wires.new }

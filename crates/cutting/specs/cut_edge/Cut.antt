@@ -8,15 +8,18 @@ use Rattle.compress.specs.declared.Edge.{Edge}
 use Rattle.compress.specs.declared.Vertex.{Vertex}
 use Rattle.compress.specs.declared.Vertex.TheVariants.{Pending}
 use Rattle.compress.specs.Records.{first_of, last_of}
+use Rattle.checks.specs.Causes.{range_cause, parameter_cause}
 use Rattle.cutting.specs.declared.cut_edge.Halves.{Halves}
 
 -- "An edge with equal ends is cut at (t0 + t1) / 2."
 unfoldable pub middle_of : Curve → Float
 middle_of c = midpoint_of (first_of c) (last_of c)
 
--- "Proved: the midpoint never leaves the range from t0 to t1. It may equal an end."
+-- "Proved: the midpoint never leaves the range from t0 to t1. It may equal an end." So on a curve without a cause it has none: no "pending parameter
+-- outside its curve's t0 to t1".
 pub record Middle (c : Curve) (r : Float) : Type 0 where
   pub exact : r ≡ middle_of c
+  pub accepted : range_cause (first_of c) (last_of c) ≡ 0 → parameter_cause (first_of c) (last_of c) r ≡ 0
   pub between : T (sized_of (first_of c)) → T (sized_of (last_of c)) → T (le (first_of c) (last_of c)) → T (le (first_of c) r) × T (le r (last_of c))
 
 -- a curve with another range

@@ -11,14 +11,38 @@ abbrev pub ends_said : Shell → Said Ends
 ends_said s =
     let n = get_or s.wires.lengths 0 0 in
     let m = get_or s.wires.lengths 1 0 in
-    nearest_correction s.vertices.numbers s.vertices.floats s.edges.numbers s.edges.floats
-    s.wires.uses (drop n s.wires.uses) s.vertices.count s.edges.count n m 0
+    nearest_correction
+    (record {
+      vn = s.vertices.numbers;
+      vf = s.vertices.floats;
+      en = s.edges.numbers;
+      ef = s.edges.floats;
+      first = s.wires.uses;
+      second = drop n s.wires.uses;
+      vertices = s.vertices.count;
+      edges = s.edges.count;
+      first_count = n;
+      second_count = m;
+      v0 = 0;
+    })
 
 -- the search for a wire that uses an edge twice
 abbrev pub divisor_said : Shell → Said Ends
 divisor_said s =
-    find_non_simple s.vertices.numbers s.vertices.floats s.edges.numbers s.edges.floats
-    s.wires.uses s.wires.lengths s.vertices.count s.edges.count s.wires.count
+    find_non_simple
+    (record {
+      slices = record {
+        vn = s.vertices.numbers;
+        vf = s.vertices.floats;
+        en = s.edges.numbers;
+        ef = s.edges.floats;
+        us = s.wires.uses;
+        ls = s.wires.lengths;
+      };
+      vertices = s.vertices.count;
+      edges = s.edges.count;
+      wires = s.wires.count;
+    })
 
 -- these two vertices are the result of a call
 abbrev pub Answered : Said Ends → Ends → Type 0

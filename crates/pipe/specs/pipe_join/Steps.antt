@@ -12,8 +12,21 @@ abbrev pub join_of : Wires → Shell → Ends → JoinOutcome
 join_of rims s d =
     let n = get_or rims.lengths 0 0 in
     let m = get_or rims.lengths 1 0 in
-    join_outcome s.edges.numbers s.edges.floats rims.uses (drop n rims.uses) s.wires.uses s.wires.lengths
-    s.vertices.count s.edges.count n m s.wires.count d.v0 d.v1
+    join_outcome (record {
+      en = s.edges.numbers;
+      ef = s.edges.floats;
+      first = rims.uses;
+      second = drop n rims.uses;
+      us = s.wires.uses;
+      ls = s.wires.lengths;
+      vertices = s.vertices.count;
+      edges = s.edges.count;
+      first_count = n;
+      second_count = m;
+      wires = s.wires.count;
+      v0 = d.v0;
+      v1 = d.v1;
+    })
 
 -- the call has a result, and the shell has the wires that it leaves
 pub record Joined (o : JoinOutcome) (left : Shell) : Type 0 where

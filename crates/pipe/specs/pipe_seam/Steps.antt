@@ -5,7 +5,6 @@ use Rattle.correction.specs.declared.nearest.Ends.{Ends}
 use Rattle.pipe_shell.specs.declared.Shell.{Shell}
 use Rattle.split.specs.Contract.{SplitOutcome, split_outcome}
 use Rattle.split.specs.declared.Boundaries.{Boundaries}
-use Rattle.split.specs.split_causes.Causes.{lent_split}
 
 -- what the call leaves along two vertices with these uv points, with so many wires to be rebuilt, in slices of zeros
 abbrev pub split_of : Shell → Ends → ℕ → List Float → SplitOutcome
@@ -13,8 +12,22 @@ split_of s d rebuilt points =
     let e = s.edges in
     let w = s.wires in
     let none = replicate 8 0 in
-    split_outcome (lent_split e.numbers e.floats w.uses w.lengths w.uses w.lengths (d.v0 ∷ d.v1 ∷ []) points
-    none none s.vertices.count e.count w.count rebuilt 2 0)
+    split_outcome
+    (record {
+      buffers = record { en = e.numbers; ef = e.floats; us = none; ls = none };
+      face_uses = w.uses;
+      face_lengths = w.lengths;
+      rebuilt_uses = w.uses;
+      rebuilt_lengths = w.lengths;
+      divisor = d.v0 ∷ d.v1 ∷ [];
+      points = points;
+      vertices = s.vertices.count;
+      edges = e.count;
+      face_wires = w.count;
+      rebuilt_wires = rebuilt;
+      stops = 2;
+      surface = 0;
+    })
 
 -- the call has a result, and the shell has the edges and the wires that it leaves
 pub record LeftBy (o : SplitOutcome) (left : Shell) : Type 0 where

@@ -30,25 +30,6 @@ pub record LentSplit : Type 0 where
   pub stops : ℕ
   pub surface : ℕ
 
--- the slices and numbers of a call, as one record
-abbrev pub lent_split : List ℕ → List Float → List ℕ → List ℕ → List ℕ → List ℕ → List ℕ → List Float → List ℕ → List ℕ → ℕ → ℕ → ℕ → ℕ → ℕ → ℕ → LentSplit
-lent_split en ef fu fl ru rl ds fs us ls v e fw rw n s =
-    record {
-      buffers = record { en = en; ef = ef; us = us; ls = ls };
-      face_uses = fu;
-      face_lengths = fl;
-      rebuilt_uses = ru;
-      rebuilt_lengths = rl;
-      divisor = ds;
-      points = fs;
-      vertices = v;
-      edges = e;
-      face_wires = fw;
-      rebuilt_wires = rw;
-      stops = n;
-      surface = s;
-    }
-
 abbrev pub face_total : LentSplit → ℕ
 face_total l = total (take l.face_wires l.face_lengths)
 

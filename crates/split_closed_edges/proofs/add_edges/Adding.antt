@@ -5,17 +5,20 @@ use mathlib.Core.Bool.{Bool, true, false}
 use mathlib.Core.List.{List, ◌∷◌, ◌++◌}
 use Prim.Native.Nat.{ℕ, ◌+◌, ◌-◌, ◌*◌, ◌≤◌, ◌<◌}
 use native.Mathlib.Omega.{arith}
-use lib.ListN.{length, get_or}
+use borrow.Author.Tests.{ltb-true, ltb-false}
+use lib.Dec.{ltb}
+use lib.ListN.{length}
 use lib.Ieee.{Float}
 use Rattle.compress.specs.declared.Edge.{Edge}
 use Rattle.compress.specs.Records.{closed}
 use Rattle.compress.specs.Layout.{Layout, put, store_from, rows}
-use Rattle.compress.specs.Rows.{numbers_per_edge, edge_kind_at, edge_at, edge_number_layout, edge_float_layout, vertex_number_layout, vertex_float_layout}
+use Rattle.compress.specs.Rows.{numbers_per_edge, numbers_per_vertex, floats_per_vertex, edge_kind_at, edge_at, vertex_at, edge_number_layout, edge_float_layout, vertex_number_layout, vertex_float_layout}
 use Rattle.compress.proofs.Layouts.{store_none, store_append, put_other, rows_none, rows_first, rows_agree, length_rows}
-use Rattle.compress.proofs.Rows.{edge_other, edge_numbers_fit, edge_floats_fit, edge_numbers_stand, edge_floats_stand}
-use Rattle.cutting.specs.cut_edge.Cut.{middle_of, halves_of}
+use Rattle.compress.proofs.Rows.{vertex_same, vertex_other, edge_other, edge_numbers_fit, edge_floats_fit, edge_numbers_stand, edge_floats_stand}
+use Rattle.checks.specs.Causes.{curve_cause, vertex_cause}
+use Rattle.cutting.specs.cut_edge.Cut.{middle_of, halves_of, pending_of}
 use Rattle.split_closed_edges.specs.add_edges.Add.{next, kept_edges, new_edges, new_vertices}
-use Rattle.split_closed_edges.specs.add_edges.Steps.{cut_rows, pending_row, closed_count, PlaceFor, Addable, Added}
+use Rattle.split_closed_edges.specs.add_edges.Steps.{cut_rows, pending_row, closed_count, PlaceFor, VerticesPass, Addable, Added}
 use Rattle.split_closed_edges.proofs.add_edges.Edges.{left, edges_turn, vertices_turn, count_first, length_kept}
 
 -- ---- rows past row i keep what they held
@@ -41,6 +44,23 @@ module _ (b : Bool) (n i m : ℕ) (e : Edge) (en : List ℕ) (ef : List Float) w
           ∙ put_other edge_number_layout edge_numbers_fit 0 en i j 2 (j * numbers_per_edge + 2) h₀ (λ q. omega arith) refl (omega arith)
       by false = refl
 
+-- ---- the vertices up to row n, and the new one where there is one, have no cause
+pub vertices_pass : (b : Bool) (n : ℕ) (e : Edge) (vn : List ℕ) (vf : List Float)
+    → (b ≡ true → (n * numbers_per_vertex + numbers_per_vertex ≤ length vn) × (n * floats_per_vertex + floats_per_vertex ≤ length vf))
+    → (b ≡ true → vertex_cause (pending_of e) ≡ 0) → VerticesPass vn vf n
+    → VerticesPass (pending_row vertex_number_layout b n e vn) (pending_row vertex_float_layout b n e vf) (next b n)
+vertices_pass false n e vn vf room new old k h = old k h
+vertices_pass true n e vn vf room new old k h = by (ltb k n) refl
+  where
+    by : (c : Bool) → ltb k n ≡ c
+        → vertex_cause (vertex_at (pending_row vertex_number_layout true n e vn) (pending_row vertex_float_layout true n e vf) k) ≡ 0
+    by true q = let p = ltb-true k n q in rw (vertex_other vn vf n (pending_of e) k (λ s. omega arith)) (old k p)
+    by false q =
+        let p = ltb-false k n q in
+        let s : k ≡ n = omega arith in
+        let f = room refl in
+        rw (s, vertex_same vn vf n (pending_of e) f.0 f.1) (new refl)
+
 pub record Adding (n₀ count : ℕ) (vn₀ : List ℕ) (vf₀ : List Float) (en₀ : List ℕ) (ef₀ : List Float)
     (vn : List ℕ) (vf : List Float) (en : List ℕ) (ef : List Float) (i n m : ℕ) : Type 0 where
   pub i_le : i ≤ count
@@ -52,6 +72,8 @@ pub record Adding (n₀ count : ℕ) (vn₀ : List ℕ) (vf₀ : List Float) (en
   pub same_en : length en ≡ length en₀
   pub same_ef : length ef ≡ length ef₀
   pub kinds : (j : ℕ) → i ≤ j → j < count → edge_kind_at en j < 2
+  pub vertices : VerticesPass vn vf n
+  pub curves : (j : ℕ) → i ≤ j → j < count → curve_cause (edge_at en ef j).curve ≡ 0
   pub to_vn : store_from vertex_number_layout vn n (new_vertices (rows (edge_at en ef) i (count - i))) ≡ store_from vertex_number_layout vn₀ n₀ (new_vertices (rows (edge_at en₀ ef₀) 0 count))
   pub to_vf : store_from vertex_float_layout vf n (new_vertices (rows (edge_at en ef) i (count - i))) ≡ store_from vertex_float_layout vf₀ n₀ (new_vertices (rows (edge_at en₀ ef₀) 0 count))
   pub to_en : left edge_number_layout edge_numbers_fit en n i m (rows (edge_at en ef) i (count - i)) ≡ left edge_number_layout edge_numbers_fit en₀ n₀ 0 count (rows (edge_at en₀ ef₀) 0 count)
@@ -79,6 +101,8 @@ module _ (n₀ count : ℕ) (vn₀ : List ℕ) (vf₀ : List Float) (en₀ : Lis
         same_en = refl;
         same_ef = refl;
         kinds = λ j lo hi. a.kinds j hi;
+        vertices = a.vertices;
+        curves = λ j lo hi. a.curves j hi;
         to_vn = rw p;
         to_vf = rw p;
         to_en = rw p;
@@ -103,13 +127,14 @@ module _ (n₀ count : ℕ) (vn₀ : List ℕ) (vf₀ : List Float) (en₀ : Lis
           edge_floats = omega (arith, a.edge_floats, M.m_is, M.same_ef);
         }
 
-    pub adding_turn : (b : Bool) (vn' : List ℕ) (vf' : List Float) (en' : List ℕ) (ef' : List Float) (n' m' : ℕ) → b ≡ closed (edge_at en ef i)
+    pub adding_turn : Addable n₀ count vn₀ vf₀ en₀ ef₀ → (b : Bool) (vn' : List ℕ) (vf' : List Float) (en' : List ℕ) (ef' : List Float) (n' m' : ℕ) → b ≡ closed (edge_at en ef i)
+        → (b ≡ true → curve_cause (edge_at en ef i).curve ≡ 0 → vertex_cause (pending_of (edge_at en ef i)) ≡ 0)
         → vn' ≡ pending_row vertex_number_layout b n (edge_at en ef i) vn → vf' ≡ pending_row vertex_float_layout b n (edge_at en ef i) vf
         → en' ≡ cut_rows edge_number_layout b n i m (edge_at en ef i) en → ef' ≡ cut_rows edge_float_layout b n i m (edge_at en ef i) ef
         → length vn' ≡ length vn → length vf' ≡ length vf → length en' ≡ length en → length ef' ≡ length ef
         → n' ≡ next b n → m' ≡ next b m
         → Adding n₀ count vn₀ vf₀ en₀ ef₀ vn' vf' en' ef' (i + 1) n' m'
-    adding_turn b vn' vf' en' ef' n' m' q e₁ e₂ e₃ e₄ l₁ l₂ l₃ l₄ en_is em_is =
+    adding_turn a b vn' vf' en' ef' n' m' q accepted e₁ e₂ e₃ e₄ l₁ l₂ l₃ l₄ en_is em_is =
         let e = edge_at en ef i in
         let k = count - (i + 1) in
         let es = rows (edge_at en ef) (i + 1) k in
@@ -118,6 +143,8 @@ module _ (n₀ count : ℕ) (vn₀ : List ℕ) (vf₀ : List Float) (en₀ : Lis
         (λ j lo hi. edge_past b n i m e en ef j (omega arith) (omega (arith, M.m_ge)))) in
         let c = count_first n e es b q in
         let room : i + 1 + length es ≤ m = omega (arith, length_rows (edge_at en ef) (i + 1) k, M.m_ge) in
+        let place_for : b ≡ true → (n * numbers_per_vertex + numbers_per_vertex ≤ length vn) × (n * floats_per_vertex + floats_per_vertex ≤ length vf)
+        = λ p. let f = place a (sym q ∙ p) in (f.vertex_numbers, f.vertex_floats) in
         record {
           i_le = omega arith;
           m_ge = rw em_is (next_ge b count m M.m_ge);
@@ -128,6 +155,8 @@ module _ (n₀ count : ℕ) (vn₀ : List ℕ) (vf₀ : List Float) (en₀ : Lis
           same_en = l₃ ∙ M.same_en;
           same_ef = l₄ ∙ M.same_ef;
           kinds = λ j lo hi. rw (e₃, kind_past b n i m e en ef j (omega arith) (omega (arith, M.m_ge))) (M.kinds j (omega arith) hi);
+          vertices = rw (e₁, e₂, en_is) (vertices_pass b n e vn vf place_for (λ p. accepted p (M.curves i (omega arith) lt)) M.vertices);
+          curves = λ j lo hi. rw (e₃, e₄, edge_past b n i m e en ef j (omega arith) (omega (arith, M.m_ge))) (M.curves j (omega arith) hi);
           to_vn = rw (r, e₁, en_is) (vertices_turn vertex_number_layout b vn n e es q ∙ rw first at M.to_vn);
           to_vf = rw (r, e₂, en_is) (vertices_turn vertex_float_layout b vf n e es q ∙ rw first at M.to_vf);
           to_en = rw (r, e₃, en_is, em_is)
@@ -145,7 +174,7 @@ module _ (n₀ count : ℕ) (vn₀ : List ℕ) (vf₀ : List Float) (en₀ : Lis
 
   pub adding_done : (vn : List ℕ) (vf : List Float) (en : List ℕ) (ef : List Float) (i n m : ℕ)
       → Adding n₀ count vn₀ vf₀ en₀ ef₀ vn vf en ef i n m → count ≤ i → Added n₀ count vn₀ vf₀ en₀ ef₀ vn vf en ef
-  unfolding new_vertices new_edges kept_edges
+  unfolding new_vertices new_edges kept_edges closed_count
   adding_done vn vf en ef i n m M h =
       let p : count - i ≡ 0 = omega arith in
       let z = rows_none (edge_at en ef) i in
@@ -155,4 +184,5 @@ module _ (n₀ count : ℕ) (vn₀ : List ℕ) (vf₀ : List Float) (en₀ : Lis
         vertex_floats = rw (p, z, store_none) at M.to_vf;
         edge_numbers = (rw (p, z, store_none, store_none) at M.to_en) ∙ joined edge_number_layout en₀ (rows (edge_at en₀ ef₀) 0 count) l;
         edge_floats = (rw (p, z, store_none, store_none) at M.to_ef) ∙ joined edge_float_layout ef₀ (rows (edge_at en₀ ef₀) 0 count) l;
+        vertices = λ k g. M.vertices k (omega (arith, rw (p, z) at M.n_is));
       }

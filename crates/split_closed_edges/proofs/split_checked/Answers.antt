@@ -2,7 +2,7 @@ use Rattle.std.proofs.lemmas.Result.{err_from_is_err_and}
 use Rattle.std.proofs.Common.{arith}
 use Rattle.cutting.proofs.Outcome.{accepted}
 use Rattle.cutting.proofs.Room.{views_asked, views_room}
-use Rattle.split_closed_edges.proofs.Outcome.{closable, cuts_few, addable, outcome_full, outcome_done}
+use Rattle.split_closed_edges.proofs.Outcome.{closable, cuts_are, cuts_few, addable, outcome_full, outcome_done}
 use Rattle.split_closed_edges.proofs.split_checked.Goals as goal
 
 pub cut_room-room-requires : goal.cut_room-room-requires
@@ -45,3 +45,11 @@ pub returns-clause-outcome : goal.returns-clause-outcome
 returns-clause-outcome c =
     rw (c.add_edges.ensures.same_vertices.count, c.add_edges.ensures.same_edges.count)
     (outcome_done _ _ _ _ _ _ _ _ _ c.requires _ (views_room c.view.ensures c.view-2.ensures _ c.cut_room-room.ensures) _ _ _ (rw (c.view-3.ensures.numbers_value, c.view-3.ensures.count_value) at c.mend_closed.ensures.mended) _ c.in_ok-m.was _ _ _ _ c.add_edges.ensures.added)
+
+pub returns-in_err-m-clause-middles : goal.returns-in_err-m-clause-middles
+returns-in_err-m-clause-middles c = let p = err_from_is_err_and c.from_residual.result c.from_residual.ensures.1 in rw p.1 tt
+
+pub returns-clause-middles : goal.returns-clause-middles
+returns-clause-middles c =
+    rw (c.add_edges.ensures.same_vertices.count, cuts_are _ _ _ _ _ _ _ _ _ c.requires _ (views_room c.view.ensures c.view-2.ensures _ c.cut_room-room.ensures) _ _ _ (rw (c.view-3.ensures.numbers_value, c.view-3.ensures.count_value) at c.mend_closed.ensures.mended) _ c.in_ok-m.was)
+    c.add_edges.ensures.added.vertices

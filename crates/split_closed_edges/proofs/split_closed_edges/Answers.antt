@@ -10,3 +10,6 @@ returns-in_err-input_cause-clause-outcome c =
 
 pub split_checked-requires : goal.split_checked-requires
 split_checked-requires c = sym (rw (c.view.ensures.numbers_value, c.view.ensures.floats_value, c.view.ensures.count_value, c.view-2.ensures.numbers_value, c.view-2.ensures.floats_value, c.view-2.ensures.count_value, c.view-3.ensures.uses_value, c.view-3.ensures.lengths_value, c.view-3.ensures.count_value) at c.in_ok-input_cause.ensures)
+
+pub returns-in_err-input_cause-clause-middles : goal.returns-in_err-input_cause-clause-middles
+returns-in_err-input_cause-clause-middles c = let p = err_from_is_err_and c.from_residual.result c.from_residual.ensures.1 in rw p.1 tt

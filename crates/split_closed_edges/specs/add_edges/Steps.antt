@@ -1,10 +1,11 @@
 -- What the steps of the pass ask and leave: one turn of `add_edges`, all of it, and its map. Definitions only.
-use Rattle.std.specs.Prelude.{Bool, true, false, ◌≡◌, Option, List, [], ◌∷◌, ◌++◌, ℕ, ◌+◌, ◌*◌, ◌≤◌, ◌<◌, length, get_or, drop, Float}
+use Rattle.std.specs.Prelude.{Bool, true, false, ◌≡◌, Option, List, [], ◌∷◌, ◌++◌, ℕ, ◌+◌, ◌*◌, ◌≤◌, ◌<◌, length, drop, Float}
 use Rattle.compress.specs.declared.Edge.{Edge}
 use Rattle.compress.specs.declared.Vertex.{Vertex}
 use Rattle.compress.specs.Records.{closed}
 use Rattle.compress.specs.Layout.{Layout, put, store, store_from, rows}
-use Rattle.compress.specs.Rows.{numbers_per_edge, floats_per_edge, numbers_per_vertex, floats_per_vertex, edge_kind_at, edge_at, edge_number_layout, edge_float_layout, vertex_number_layout, vertex_float_layout}
+use Rattle.compress.specs.Rows.{numbers_per_edge, floats_per_edge, numbers_per_vertex, floats_per_vertex, edge_kind_at, edge_at, vertex_at, edge_number_layout, edge_float_layout, vertex_number_layout, vertex_float_layout}
+use Rattle.checks.specs.Causes.{curve_cause, vertex_cause}
 use Rattle.cutting.specs.cut_edge.Cut.{middle_of, halves_of, pending_of}
 use Rattle.split_closed_edges.specs.add_edges.Add.{next, kept_edges, new_edges, new_vertices, added_to}
 
@@ -31,7 +32,11 @@ pub record PlaceFor (n m : ℕ) (vn : List ℕ) (vf : List Float) (en : List ℕ
   pub edge_numbers : m * numbers_per_edge + numbers_per_edge ≤ length en
   pub edge_floats : m * floats_per_edge + floats_per_edge ≤ length ef
 
--- `add_edges` has a row for each vertex and each edge of its result, and the kinds of its edges are known ones
+-- the vertices of the rows below n have no cause: of each pending one the parameter lies within the range of its curve
+abbrev pub VerticesPass : List ℕ → List Float → ℕ → Type 0
+VerticesPass vn vf n = (k : ℕ) → k < n → vertex_cause (vertex_at vn vf k) ≡ 0
+
+-- `add_edges` has a row for each vertex and each edge of its result, the kinds of its edges are known ones, and no vertex and no curve has a cause
 pub record Addable (n count : ℕ) (vn : List ℕ) (vf : List Float) (en : List ℕ) (ef : List Float) : Type 0 where
   pub below : n + closed_count (rows (edge_at en ef) 0 count) ≤ 4096
   pub vertex_numbers : (n + closed_count (rows (edge_at en ef) 0 count)) * numbers_per_vertex ≤ length vn
@@ -39,14 +44,17 @@ pub record Addable (n count : ℕ) (vn : List ℕ) (vf : List Float) (en : List 
   pub edge_numbers : (count + closed_count (rows (edge_at en ef) 0 count)) * numbers_per_edge ≤ length en
   pub edge_floats : (count + closed_count (rows (edge_at en ef) 0 count)) * floats_per_edge ≤ length ef
   pub kinds : (j : ℕ) → j < count → edge_kind_at en j < 2
+  pub vertices : VerticesPass vn vf n
+  pub curves : (j : ℕ) → j < count → curve_cause (edge_at en ef j).curve ≡ 0
 
--- the slices after `add_edges`: the edges with their halves, and the new vertices from row n on
+-- the slices after `add_edges`: the edges with their halves, and the new vertices from row n on, which have no cause either
 pub record Added (n count : ℕ) (vn : List ℕ) (vf : List Float) (en : List ℕ) (ef : List Float)
     (vn' : List ℕ) (vf' : List Float) (en' : List ℕ) (ef' : List Float) : Type 0 where
   pub vertex_numbers : vn' ≡ store_from vertex_number_layout vn n (new_vertices (rows (edge_at en ef) 0 count))
   pub vertex_floats : vf' ≡ store_from vertex_float_layout vf n (new_vertices (rows (edge_at en ef) 0 count))
   pub edge_numbers : en' ≡ store edge_number_layout en (kept_edges n (rows (edge_at en ef) 0 count) ++ new_edges n (rows (edge_at en ef) 0 count))
   pub edge_floats : ef' ≡ store edge_float_layout ef (kept_edges n (rows (edge_at en ef) 0 count) ++ new_edges n (rows (edge_at en ef) 0 count))
+  pub vertices : VerticesPass vn' vf' (n + closed_count (rows (edge_at en ef) 0 count))
 
 -- the map of `add_edges` written over the front of a table, and how many edges are closed
 pub record Marked (es : List Edge) (before added : List (Option ℕ)) (r : ℕ) : Type 0 where

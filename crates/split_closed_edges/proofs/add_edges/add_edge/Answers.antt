@@ -1,5 +1,7 @@
 use Rattle.std.proofs.Common.{arith}
+use mathlib.Core.Bool.{false≢true}
 use mathlib.Core.Path.{sym}
+use Rattle.cutting.proofs.Within.{pending_accepted}
 use Rattle.split_closed_edges.proofs.add_edges.Edges.{closed_yes, closed_no}
 use Rattle.split_closed_edges.proofs.add_edges.add_edge.Goals as goal
 
@@ -7,6 +9,9 @@ pub returns-then-e-clause-value : goal.returns-then-e-clause-value
 returns-then-e-clause-value c =
     let v = c.view.ensures in
     sym (closed_no _ _ (rw (v.numbers_value, v.floats_value) at c.at-e.ensures) c.if-e.true)
+
+pub returns-then-e-clause-accepted : goal.returns-then-e-clause-accepted
+returns-then-e-clause-accepted c p = absurd (false≢true p)
 
 pub overflow_cast-n : goal.overflow_cast-n
 overflow_cast-n c =
@@ -29,3 +34,8 @@ pub returns-clause-value : goal.returns-clause-value
 returns-clause-value c =
     let v = c.view.ensures in
     sym (closed_yes _ _ (rw (v.numbers_value, v.floats_value) at c.at-e.ensures) c.if-e.false)
+
+pub returns-clause-accepted : goal.returns-clause-accepted
+returns-clause-accepted c p =
+    let v = c.view.ensures in
+    rw (rw (v.numbers_value, v.floats_value) at c.at-e.ensures) at (pending_accepted c.at-e.result c.middle.result c.middle.ensures)

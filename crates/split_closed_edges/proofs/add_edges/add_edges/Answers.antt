@@ -32,8 +32,8 @@ loop-i-preserved c =
     let l = c.loop-i.invariant in
     let s = c.add_edge.ensures in
     record {
-      adding = adding_turn _ _ _ _ _ _ _ _ _ _ _ _ _ l.adding c.loop-i-test.true c.add_edge.result _ _ _ _ _ _
-          s.value s.vertex_numbers_after s.vertex_floats_after s.edge_numbers_after s.edge_floats_after s.same_vertices.numbers_len s.same_vertices.floats_len s.same_edges.numbers_len s.same_edges.floats_len
+      adding = adding_turn _ _ _ _ _ _ _ _ _ _ _ _ _ l.adding c.loop-i-test.true c.requires c.add_edge.result _ _ _ _ _ _
+          s.value s.accepted s.vertex_numbers_after s.vertex_floats_after s.edge_numbers_after s.edge_floats_after s.same_vertices.numbers_len s.same_vertices.floats_len s.same_edges.numbers_len s.same_edges.floats_len
           (elim c.if-add_edge.branch [ then-add_edge w ↦ rw w.if-add_edge.true w.n-is | else-add_edge w ↦ rw w.if-add_edge.false w.n-is ])
           (elim c.if-add_edge.branch [ then-add_edge w ↦ rw w.if-add_edge.true w.m-is | else-add_edge w ↦ rw w.if-add_edge.false w.m-is ]);
       vertices = same_table_then l.vertices s.same_vertices;

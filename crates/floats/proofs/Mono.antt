@@ -4,9 +4,9 @@ use Rattle.std.proofs.Common.{sym, ap, ◌∙◌, subst, le_refl, add_comm, mul-
 use Rattle.std.specs.Float.{nan, inf, fin, Format}
 use Rattle.std.specs.Float.Ieee.{low, up, down, below, unlike, round, neg, add, sub, mul, div, le, lt, fits}
 use Rattle.std.specs.Float.Ieee.Scale.{finite}
-use Rattle.floats.specs.Value.{plus, less, Sle, sgn, mag, pv, nv, Held, le→sle, sle→le, sle→test}
-use Rattle.floats.specs.Bounds.{plus_le}
-use Rattle.floats.specs.Rounds.{Rounds, round_neg, neg_held, rounds_mono, rounds_ge, signed_mono, add_rounds, sub_rounds, mul_rounds, div_rounds, mul_is}
+use Rattle.floats.proofs.Value.{plus, less, Sle, sgn, mag, pv, nv, Held, le→sle, sle→le, sle→test}
+use Rattle.floats.proofs.Bounds.{plus_le}
+use Rattle.floats.proofs.Rounds.{Rounds, round_neg, neg_held, rounds_mono, rounds_ge, signed_mono, add_rounds, sub_rounds, mul_rounds, div_rounds, mul_is}
 
 -- 0.0, of any format
 abbrev pub zero_f : Float

@@ -7,8 +7,8 @@ use Rattle.std.proofs.Math.Pow.{pow-lt}
 use Rattle.std.specs.Float.{Format}
 use Rattle.std.specs.Float.Ieee.{prec, emax, low, round, neg, add, sub, mul, div, le}
 use Rattle.std.specs.Float.Ieee.Fits.{two, two-le_pos}
-use Rattle.floats.specs.Value.{plus, less, sgn, mag, pv, nv, Held, Is, le→sle, round_rep}
-use Rattle.floats.specs.Rounds.{Rounds, held_between, rounds_fits, rounds_ge, rounds_le, neg_held, neg_pv, neg_nv, add_rounds, sub_rounds, mul_rounds, div_rounds}
+use Rattle.floats.proofs.Value.{plus, less, sgn, mag, pv, nv, Held, Is, le→sle, round_rep}
+use Rattle.floats.proofs.Rounds.{Rounds, held_between, rounds_fits, rounds_ge, rounds_le, neg_held, neg_pv, neg_nv, add_rounds, sub_rounds, mul_rounds, div_rounds}
 
 pub record Under (f : Format) (k : ℕ) (x : Float) : Type 0 where
   pub held : Held f x

@@ -11,7 +11,7 @@ use Rattle.std.specs.Float.Ieee.{prec, emax, low, unlike, up, down, odd, units, 
 use Rattle.std.specs.Float.Ieee.Fits.{up_pos, down_pos, round_is, round-fits, neg-fits}
 use Rattle.std.specs.Float.Ieee.Order.{round_mono, kept, drop}
 use Rattle.std.specs.Float.Ieee.Scale.{finite, round_same}
-use Rattle.floats.specs.Value.{plus, less, Sle, sgn, place, mag, pv, nv, Held, Is, plus_mul, less_mul, test→sle, sle→test, sle→le, crossed, place_val, fine_of, round_rep, round_self}
+use Rattle.floats.proofs.Value.{plus, less, Sle, sgn, place, mag, pv, nv, Held, Is, plus_mul, less_mul, test→sle, sle→test, sle→le, crossed, place_val, fine_of, round_rep, round_self}
 
 -- ---- the sign of what is rounded
 -- x is no NaN, and has the sign s
