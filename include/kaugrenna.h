@@ -29,9 +29,10 @@
  * Tables. A table is lent as rows of numbers and rows of floats, and a count
  * of rows:
  *
- *   edges     4 numbers: front, back, kind (0 span, 1 seam), curve or surface
- *             number; 6 floats: u, v, u, v, t0, t1, of which a span has the
- *             last two
+ *   edges     5 numbers: front, back, kind (0 span, 1 seam), curve or surface
+ *             number, preparation for the weld (0 square, 1 single bevel, 2
+ *             double bevel); 6 floats: u, v, u, v, t0, t1, of which a span
+ *             has the last two
  *   vertices  3 numbers: kind (0 given, 1 pending), curve kind, curve or
  *             surface number; 7 floats: given x, y, z in the first three,
  *             pending those of its curve and then the parameter
@@ -41,6 +42,9 @@
  *   divisor   a vertex number; 2 floats: u, v
  *   ends      5 floats: u, v of a wire's first point, u, v of its last point,
  *             area
+ *
+ * Since 0.2.0 an edge has 5 numbers; in 0.1.0 it had 4, without the
+ * preparation.
  *
  * Cells that a record of its kind does not have are no input and keep what
  * they held, and so do entries past a count or past a result.
@@ -63,8 +67,8 @@
 #include <stdint.h>
 
 /* The version of this header: 10,000, 100 and 1 for each of its numbers. */
-#define KAUGRENNA_VERSION 100
-#define KAUGRENNA_VERSION_TEXT "0.1.0"
+#define KAUGRENNA_VERSION 200
+#define KAUGRENNA_VERSION_TEXT "0.2.0"
 
 /* A result, and "none": no result, and nothing is wrong with the input. */
 #define KAUGRENNA_DONE 0
@@ -72,7 +76,7 @@
 
 /* How many numbers and floats a row has; of a wire in the sorting (`ends`),
    of a vertex on the divisor (`points`). */
-#define KAUGRENNA_NUMBERS_PER_EDGE 4
+#define KAUGRENNA_NUMBERS_PER_EDGE 5
 #define KAUGRENNA_FLOATS_PER_EDGE 6
 #define KAUGRENNA_NUMBERS_PER_VERTEX 3
 #define KAUGRENNA_FLOATS_PER_VERTEX 7
@@ -103,6 +107,13 @@ enum kaugrenna_kind {
     KAUGRENNA_POSITIVE = 0,
     KAUGRENNA_NEGATIVE = 1,
     KAUGRENNA_NOT_CLOSED = 2
+};
+
+/* How an edge is prepared for the weld, the last number of its row. */
+enum kaugrenna_preparation {
+    KAUGRENNA_SQUARE = 0,
+    KAUGRENNA_SINGLE_BEVEL = 1,
+    KAUGRENNA_DOUBLE_BEVEL = 2
 };
 
 /*
@@ -148,7 +159,8 @@ KAUGRENNA_INLINE const char *kaugrenna_text(int32_t code) {
         return "there is no result, and nothing is wrong with the input";
     case KAUGRENNA_MALFORMED:
         return "a count is above its bound or above what was lent, the sum of "
-               "the wire lengths is, or a kind is neither 0 nor 1";
+               "the wire lengths is, a kind is neither 0 nor 1, or a "
+               "preparation is above 2";
     case KAUGRENNA_VERTEX_NUMBER:
         return "a vertex number, in an edge or by itself, is not below the "
                "vertex count";
@@ -193,9 +205,10 @@ extern "C" {
 #endif
 
 /*
- * Every closed edge is cut and every wire mended, in place. 0: done, and the
- * three places hold the new counts of vertices, edges and uses. Else the
- * number of the refusal, and nothing lent is changed.
+ * Every closed edge is cut and every wire mended, in place; both pieces have
+ * the preparation of the edge that was cut. 0: done, and the three places hold
+ * the new counts of vertices, edges and uses. Else the number of the refusal,
+ * and nothing lent is changed.
  *
  * Room: a row in each table for every closed edge, and a place in `uses` for
  * every use of one.
@@ -223,9 +236,10 @@ int32_t kaugrenna_split_closed_edges(
 /*
  * Edge number `edge` is cut by the cuts in `cuts`, four floats each:
  * parameter, x, y, z. No cut changes nothing, one cuts the edge and mends
- * every wire, in place, and two or more are refused (14). 0: done, and the
- * three places hold the counts of vertices, edges and uses. Else the number
- * of the refusal, and nothing lent is changed.
+ * every wire, in place, and two or more are refused (14). Both pieces have the
+ * preparation of the edge that was cut. 0: done, and the three places hold the
+ * counts of vertices, edges and uses. Else the number of the refusal, and
+ * nothing lent is changed.
  *
  * Room: for one cut a row in each table, and a place in `uses` for every use
  * of the edge; for no cut none.
@@ -378,10 +392,11 @@ int32_t kaugrenna_find_non_simple_wire_divisor(
 
 /*
  * The wires to be rebuilt are rebuilt along the divisor, a list of vertices
- * with their uv points, two floats each: the new edges are appended to the
- * edge table, and the answered wires go to `uses` and `lengths`. 0: done,
- * and the three places hold the counts of wires, of their uses and of edges.
- * Else the number of the refusal, and nothing lent is changed.
+ * with their uv points, two floats each: the new edges, which are seams and
+ * square, are appended to the edge table, and the answered wires go to `uses`
+ * and `lengths`. 0: done, and the three places hold the counts of wires, of
+ * their uses and of edges. Else the number of the refusal, and nothing lent is
+ * changed.
  *
  * Room: in `uses` and in `lengths` each a place for every use to be rebuilt
  * and two for every pair on the divisor (first with second, third with

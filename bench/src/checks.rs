@@ -7,6 +7,7 @@ use kaugrenna::lent::{EDGE_FLOATS, EDGE_NUMBERS, VERTEX_FLOATS, VERTEX_NUMBERS};
 use kaugrenna::Cuts;
 use oracle::healing::prepared::Ready;
 use oracle::records::Shell;
+use oracle::shell::PREPARATION;
 
 /// Whether a shell is accepted, and whether each of its damaged copies is.
 type Accepted = Vec<bool>;
@@ -28,7 +29,7 @@ impl Asked {
     }
 
     fn accepted(&self) -> Accepted {
-        let damaged = (1..=5).map(|cause| (self.is_sound)(&mut damaged(&self.slices, cause)));
+        let damaged = DAMAGES.map(|damage| (self.is_sound)(&mut damaged(&self.slices, damage)));
         std::iter::once(self.said).chain(damaged).collect()
     }
 }
@@ -75,17 +76,38 @@ impl Ready for OfRust {
     }
 }
 
-/// A copy with this cause, in a last row or a first use.
-fn damaged(slices: &Slices, cause: u32) -> Slices {
+/// A damage that is a cause.
+#[derive(Clone, Copy)]
+enum Damage {
+    Kind,
+    Preparation,
+    End,
+    Use,
+    Float,
+    Range,
+}
+
+const DAMAGES: [Damage; 6] = [
+    Damage::Kind,
+    Damage::Preparation,
+    Damage::End,
+    Damage::Use,
+    Damage::Float,
+    Damage::Range,
+];
+
+/// A copy with this damage, in a last row or a first use.
+fn damaged(slices: &Slices, damage: Damage) -> Slices {
     let mut slices = slices.clone();
     let (tables, uses) = (&mut slices.tables, &mut slices.wires.uses);
     let (vertex, edge) = (tables.vertices - 1, tables.edges - 1);
-    match cause {
-        1 => tables.vertex_numbers[VERTEX_NUMBERS * vertex] = 2,
-        2 => tables.edge_numbers[EDGE_NUMBERS * edge + 1] = tables.vertices as u32,
-        3 => uses[0] = 2 * tables.edges as u32,
-        4 => tables.vertex_floats[VERTEX_FLOATS * vertex + 2] = f64::NAN,
-        _ => tables.edge_floats[EDGE_FLOATS * edge + 5] = -1.0e15,
+    match damage {
+        Damage::Kind => tables.vertex_numbers[VERTEX_NUMBERS * vertex] = 2,
+        Damage::Preparation => tables.edge_numbers[EDGE_NUMBERS * edge + PREPARATION] = 3,
+        Damage::End => tables.edge_numbers[EDGE_NUMBERS * edge + 1] = tables.vertices as u32,
+        Damage::Use => uses[0] = 2 * tables.edges as u32,
+        Damage::Float => tables.vertex_floats[VERTEX_FLOATS * vertex + 2] = f64::NAN,
+        Damage::Range => tables.edge_floats[EDGE_FLOATS * edge + 5] = -1.0e15,
     }
     slices
 }
@@ -117,7 +139,8 @@ fn is_curve(kind: u32, floats: &[f64]) -> bool {
 }
 
 fn is_edge(vertices: u32, numbers: &[u32], floats: &[f64]) -> bool {
-    numbers[0] < vertices && numbers[1] < vertices && is_curve(numbers[2], floats)
+    let has_ends = numbers[0] < vertices && numbers[1] < vertices;
+    has_ends && numbers[PREPARATION] <= 2 && is_curve(numbers[2], floats)
 }
 
 fn is_vertex(numbers: &[u32], floats: &[f64]) -> bool {

@@ -2,7 +2,7 @@
 //! of uses, over tables of just its size or over full ones.
 
 use oracle::random::Random;
-use oracle::records::{Curve, Edge, Shell, Vertex};
+use oracle::records::{Curve, Edge, Preparation, Shell, Vertex};
 
 /// The most vertices, and the most edges.
 const FULL: usize = 4096;
@@ -41,9 +41,10 @@ fn curve(row: usize, random: &mut Random) -> Curve {
     }
 }
 
-/// A shell with given vertices and these ends of edges and wires. Full tables
-/// are filled up with rows that nothing uses, as many as leave room for so
-/// many more.
+/// A shell with given vertices and these ends of edges and wires. Of the edges
+/// the first three are double bevels, the next three square and then single
+/// bevels, and so on. Full tables are filled up with rows that nothing uses, as
+/// many as leave room for so many more.
 fn shell(ends: &[(usize, usize)], wires: Vec<Vec<u32>>, full: bool, more: usize) -> Shell {
     let mut random = Random::new(1, 0, ends.len() as u64);
     let least = ends.iter().map(|&(front, back)| front.max(back) + 1).max();
@@ -58,6 +59,7 @@ fn shell(ends: &[(usize, usize)], wires: Vec<Vec<u32>>, full: bool, more: usize)
             front: front as u32,
             back: back as u32,
             curve: curve(row, random),
+            preparation: Preparation::in_turn(2 + row / 3),
         }
     };
     let edges = (0..edges).map(|row| edge(row, &mut random)).collect();

@@ -3,7 +3,7 @@
 use crate::port::Wires;
 use crate::records::{notation, Vertex};
 use crate::shell::{read_edge, read_vertex, Lent, Tables, NAMES};
-use crate::shell::{EDGE_FLOATS, EDGE_NUMBERS, VERTEX_FLOATS, VERTEX_NUMBERS};
+use crate::shell::{EDGE_FLOATS, EDGE_NUMBERS, PREPARATION, VERTEX_FLOATS, VERTEX_NUMBERS};
 use std::fmt::Write as _;
 
 /// Tables and wires.
@@ -41,11 +41,12 @@ pub fn tables(tables: &Tables) -> String {
     let numbers = tables.edge_numbers.chunks_exact(EDGE_NUMBERS);
     let rows = numbers.zip(tables.edge_floats.chunks_exact(EDGE_FLOATS));
     for (row, (numbers, floats)) in rows.enumerate().take(tables.edges) {
-        let (edge, kind) = (read_edge(numbers, floats), numbers[2]);
+        let edge = read_edge(numbers, floats);
         let (front, back, curve) = (edge.front, edge.back, edge.curve);
+        let (kind, preparation) = (numbers[2], numbers[PREPARATION]);
         let _ = writeln!(
             text,
-            "  edge {row} = ({front}, {back}) kind {kind} {curve:?}"
+            "  edge {row} = ({front}, {back}) kind {kind} {curve:?}, preparation {preparation}"
         );
     }
     text

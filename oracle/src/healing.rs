@@ -2,12 +2,14 @@
 //!
 //! This module stands where the sources expect their parent: it gives them
 //! the compressed records, the short names and the shim, and nothing else.
+//! Their edges have no weld preparation: the Rust never sees one. The edges
+//! that come back from it are given theirs here (`preparations`).
 
 mod hash;
 pub mod prepared;
 mod quiet;
 
-use crate::records;
+use crate::records::{self, Preparation};
 use crate::shim::*;
 
 /// An edge: the numbers of its two vertices, and its curve.
@@ -78,9 +80,10 @@ pub fn split(shell: &records::Shell, faces: usize) -> records::Shell {
         faces: deal(&shell.wires, faces),
     };
     split_closed_edges::split_closed_edges(&mut rust);
+    let preparations = preparations(&shell.edges, of_closed(&shell.edges));
     records::Shell {
         vertices: rust.vertices,
-        edges: rust.edges.iter().map(from_rust).collect(),
+        edges: from_edges(&rust.edges, &preparations),
         wires: gather(&rust.faces, shell.wires.len()),
     }
 }
@@ -149,9 +152,11 @@ pub fn cut(shell: &records::Shell, edge: u32, t: f64, point: [f64; 3]) -> record
     let given = |point: Point3| records::Vertex::Given(point.x, point.y, point.z);
     let mut vertices = shell.vertices.clone();
     vertices.extend(added.into_iter().map(given));
+    let piece = shell.edges[edge as usize].preparation;
+    let preparations = preparations(&shell.edges, [piece]);
     records::Shell {
         vertices,
-        edges: edges.iter().map(from_rust).collect(),
+        edges: from_edges(&edges, &preparations),
         wires: from_wires(&wires),
     }
 }
@@ -191,12 +196,13 @@ pub fn split_by_divisor(
 ) -> Result<Rebuilt, Stuck> {
     let [face, rebuilt] = [face, rebuilt].map(to_wires);
     let on_divisor = to_list(list);
+    let preparations = preparations(edges, of_seams(list));
     let (surface, mut edges) = (Surface { number: surface }, to_edges(edges));
     let mut lines = no_lines(edges.len());
     let tables = (&mut edges, &mut lines);
     let walk = || split_closed_faces::ways::split([&face, &rebuilt], &on_divisor, surface, tables);
     match quiet::caught(walk) {
-        Ok(wires) => Ok((edges.iter().map(from_rust).collect(), from_wires(&wires))),
+        Ok(wires) => Ok((from_edges(&edges, &preparations), from_wires(&wires))),
         Err(said) if said == "internal error: entered unreachable code" => Err(Stuck::DeadEnd),
         Err(said) if said == "something wrong!" => Err(Stuck::Crowd),
         Err(said) => panic!("the Rust panicked: {said}"),
@@ -234,7 +240,7 @@ fn numbers((v0, v1): (usize, usize)) -> [u32; 2] {
     [v0 as u32, v1 as u32]
 }
 
-/// An edge as the Rust holds it.
+/// An edge as the Rust holds it, without its preparation.
 fn to_rust<P>(edge: &records::Edge) -> Edge<On<P>> {
     Edge {
         vertices: (edge.front as usize, edge.back as usize),
@@ -242,13 +248,46 @@ fn to_rust<P>(edge: &records::Edge) -> Edge<On<P>> {
     }
 }
 
-/// An edge as it is lent.
-fn from_rust<P>(edge: &Edge<On<P>>) -> records::Edge {
+/// An edge as it is lent, with the preparation that it must have.
+fn from_rust<P>(edge: &Edge<On<P>>, preparation: Preparation) -> records::Edge {
     records::Edge {
         front: edge.vertices.0 as u32,
         back: edge.vertices.1 as u32,
         curve: edge.curve.curve,
+        preparation,
     }
+}
+
+/// All edges that come back from the Rust, with the preparations that they
+/// must have.
+fn from_edges<P>(edges: &[Edge<On<P>>], preparations: &[Preparation]) -> Vec<records::Edge> {
+    assert_eq!(edges.len(), preparations.len(), "one for each edge");
+    let both = edges.iter().zip(preparations);
+    both.map(|(edge, &preparation)| from_rust(edge, preparation))
+        .collect()
+}
+
+/// The preparations of all edges after a call: a lent edge keeps its own under
+/// its number, cut or not, and behind these stand those of the edges that are
+/// added.
+fn preparations(
+    lent: &[records::Edge],
+    added: impl IntoIterator<Item = Preparation>,
+) -> Vec<Preparation> {
+    let lent = lent.iter().map(|edge| edge.preparation);
+    lent.chain(added).collect()
+}
+
+/// Those of the pieces that the pass adds, one for each closed edge and in the
+/// order of these: the closed edge's own.
+fn of_closed(lent: &[records::Edge]) -> impl Iterator<Item = Preparation> + '_ {
+    let closed = lent.iter().filter(|edge| edge.front == edge.back);
+    closed.map(|edge| edge.preparation)
+}
+
+/// Those of the seams that a split adds, one for each pair of the list: square.
+fn of_seams(list: &[(u32, [f64; 2])]) -> impl Iterator<Item = Preparation> {
+    (0..list.len() / 2).map(|_| Preparation::Square)
 }
 
 /// A wire as the Rust holds it.

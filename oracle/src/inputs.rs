@@ -3,9 +3,9 @@
 
 use crate::model::{MOST_EDGES, MOST_USES, MOST_VERTICES, MOST_WIRES};
 use crate::random::Random;
-use crate::records::{Curve, Edge, Shell, Vertex};
+use crate::records::{Curve, Edge, Preparation, Shell, Vertex};
 use crate::shell::{needed, Lent, Tables};
-use crate::shell::{EDGE_FLOATS, EDGE_NUMBERS, VERTEX_FLOATS, VERTEX_NUMBERS};
+use crate::shell::{EDGE_FLOATS, EDGE_NUMBERS, PREPARATION, VERTEX_FLOATS, VERTEX_NUMBERS};
 
 /// How large a shell shall be.
 pub struct Sizes {
@@ -65,7 +65,8 @@ pub fn shell_of(random: &mut Random, sizes: &Sizes, vertex: fn(&mut Random) -> V
     }
 }
 
-/// An edge that is closed in so many eighths of all cases, or by chance.
+/// An edge of any preparation that is closed in so many eighths of all cases,
+/// or by chance.
 pub fn edge(random: &mut Random, vertices: usize, closed_share: usize) -> Edge {
     let front = random.below(vertices);
     let back = match random.below(8) < closed_share {
@@ -76,6 +77,7 @@ pub fn edge(random: &mut Random, vertices: usize, closed_share: usize) -> Edge {
         front: front as u32,
         back: back as u32,
         curve: curve(random),
+        preparation: random.pick(&Preparation::ALL),
     }
 }
 
@@ -250,13 +252,17 @@ pub fn damage_tables(random: &mut Random, tables: &mut Tables, thing: usize) {
     }
 }
 
-/// Spoils a kind cell of some row.
+/// Spoils a kind cell or the preparation of some row.
 fn kind(random: &mut Random, tables: &mut Tables) {
-    let value = random.pick(&[0, 1, 1, 2, 3, u32::MAX]);
+    let any = random.word() as u32;
+    let value = random.pick(&[0, 1, 1, 2, 2, 3, 3, u32::MAX, any]);
     let row = random.below(6);
-    let cell = match random.below(3) {
+    let cell = match random.below(4) {
         0 => tables.edge_numbers.get_mut(row * EDGE_NUMBERS + 2),
-        1 => tables.vertex_numbers.get_mut(row * VERTEX_NUMBERS),
+        1 => tables
+            .edge_numbers
+            .get_mut(row * EDGE_NUMBERS + PREPARATION),
+        2 => tables.vertex_numbers.get_mut(row * VERTEX_NUMBERS),
         _ => tables.vertex_numbers.get_mut(row * VERTEX_NUMBERS + 1),
     };
     if let Some(cell) = cell {
@@ -376,6 +382,8 @@ pub fn noise(random: &mut Random) -> Lent {
     let numbers = tables.edge_numbers.iter_mut();
     let numbers = numbers.chain(&mut tables.vertex_numbers);
     numbers.for_each(|cell| *cell = number(random, 2));
+    let rows = tables.edge_numbers.chunks_exact_mut(EDGE_NUMBERS);
+    rows.for_each(|row| row[PREPARATION] = number(random, 3));
     let floats = tables.edge_floats.iter_mut();
     let floats = floats.chain(&mut tables.vertex_floats);
     floats.for_each(|cell| *cell = float(random));

@@ -4,11 +4,12 @@
 pub mod arrays;
 pub mod ways;
 
+use crate::calls::tables::{Spoil, OF_PREPARATIONS};
 use crate::compare::{Case, Expected};
 use crate::random::Random;
-use crate::records::{Edge, Shell, Vertex};
+use crate::records::{Edge, Preparation, Shell, Vertex};
 use crate::shell::{needed, Lent};
-use crate::shell::{EDGE_FLOATS, EDGE_NUMBERS, VERTEX_FLOATS, VERTEX_NUMBERS};
+use crate::shell::{EDGE_FLOATS, EDGE_NUMBERS, PREPARATION, VERTEX_FLOATS, VERTEX_NUMBERS};
 use ways::{ample, cells, done, edge, held, k1_cells, refused, sample, shell, span};
 use ways::{edge_float, edge_number, vertex_float, vertex_number};
 use ways::{spoiled, unharmed, words};
@@ -17,12 +18,18 @@ use ways::{spoiled, unharmed, words};
 pub fn cases() -> Vec<Case<Lent>> {
     [
         worked(),
-        vec![k1_cell_by_cell()],
+        vec![
+            k1_cell_by_cell("K1 cell by cell", 0),
+            k1_cell_by_cell("a single bevel cell by cell", 1),
+            k1_cell_by_cell("a double bevel cell by cell", 2),
+        ],
+        vec![prepared_rings()],
         middles(),
         full_tables(),
         use_counts(),
         arrays::cases(),
         kinds(),
+        preparations(),
         numbers(),
         floats(),
         parameters(),
@@ -106,8 +113,50 @@ fn two_rings() -> Case<Lent> {
     done("two closed edges", &before, &after)
 }
 
-/// K1 with each cell written out, in buffers of just the result's length.
-fn k1_cell_by_cell() -> Case<Lent> {
+/// A closed edge of each bevel beside an open one of each: both pieces have
+/// their edge's preparation, and the open edges keep theirs.
+fn prepared_rings() -> Case<Lent> {
+    use Preparation::{DoubleBevel, SingleBevel};
+    let (first, second) = (span(7, 0.0, 8.0), span(8, 1.0, 2.0));
+    let open = [
+        edge(0, 1, span(9, 0.0, 1.0)).prepared(SingleBevel),
+        edge(1, 0, span(10, 0.0, 1.0)).prepared(DoubleBevel),
+    ];
+    let double = |front: u32, back: u32, t0: f64, t1: f64| {
+        edge(front, back, span(7, t0, t1)).prepared(DoubleBevel)
+    };
+    let single = |front: u32, back: u32, t0: f64, t1: f64| {
+        edge(front, back, span(8, t0, t1)).prepared(SingleBevel)
+    };
+    let before = shell(
+        &[ORIGIN, ORIGIN],
+        &[
+            open[0],
+            double(0, 0, 0.0, 8.0),
+            open[1],
+            single(1, 1, 1.0, 2.0),
+        ],
+        &["1+ 0+ 3+ 2+", "3- 1-"],
+    );
+    let middles = [Vertex::Pending(first, 4.0), Vertex::Pending(second, 1.5)];
+    let after = shell(
+        &[ORIGIN, ORIGIN, middles[0], middles[1]],
+        &[
+            open[0],
+            double(0, 2, 0.0, 4.0),
+            open[1],
+            single(1, 3, 1.0, 1.5),
+            double(2, 0, 4.0, 8.0),
+            single(3, 1, 1.5, 2.0),
+        ],
+        &["1+ 4+ 0+ 3+ 5+ 2+", "5- 3- 4- 1-"],
+    );
+    done("closed and open edges of both bevels", &before, &after)
+}
+
+/// K1 with each cell written out, in buffers of just the result's length, and
+/// with an edge of a preparation.
+fn k1_cell_by_cell(name: &'static str, preparation: u32) -> Case<Lent> {
     let k = 77.0;
     let after = cells(
         (
@@ -115,14 +164,14 @@ fn k1_cell_by_cell() -> Case<Lent> {
             [0.0, 0.0, 0.0, k, k, k, k, k, k, k, k, 0.0, 8.0, 4.0],
         ),
         (
-            [0, 1, 0, 7, 1, 0, 0, 7],
+            [0, 1, 0, 7, preparation, 1, 0, 0, 7, preparation],
             [k, k, k, k, 0.0, 4.0, k, k, k, k, 4.0, 8.0],
         ),
         ([0, 2], 2),
     );
     Case {
-        name: "K1 cell by cell",
-        input: k1_cells(),
+        name,
+        input: k1_cells(preparation),
         expected: Expected {
             answer: 0,
             out: words([2, 2, 2]),
@@ -225,6 +274,25 @@ fn kinds() -> Vec<Case<Lent>> {
             lent.tables.edge_numbers[place] = 2;
         }),
     ]
+}
+
+/// Preparation cells that hold no known preparation, and cells that are no
+/// input.
+fn preparations() -> Vec<Case<Lent>> {
+    let refused =
+        |(name, number, change): Spoil| spoiled(name, number, move |lent| change(&mut lent.tables));
+    let mut cases: Vec<Case<Lent>> = OF_PREPARATIONS.into_iter().map(refused).collect();
+    cases.push(spoiled(
+        "preparation 3 of an open edge",
+        1,
+        edge_number(0, PREPARATION, 3),
+    ));
+    // Row 3 becomes the new edge; the cells behind it are kept.
+    cases.push(unharmed(
+        "preparation 3 behind the edges",
+        edge_number(4, PREPARATION, 3),
+    ));
+    cases
 }
 
 /// Vertex and edge numbers at and past the counts.

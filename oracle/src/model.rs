@@ -7,7 +7,8 @@ pub mod near;
 pub mod search;
 pub mod split;
 
-use crate::shell::{Lent, Tables, EDGE_FLOATS, EDGE_NUMBERS, VERTEX_FLOATS, VERTEX_NUMBERS};
+use crate::shell::{Lent, Tables};
+use crate::shell::{EDGE_FLOATS, EDGE_NUMBERS, PREPARATION, VERTEX_FLOATS, VERTEX_NUMBERS};
 
 /// Most vertices in a table.
 pub const MOST_VERTICES: usize = 4096;
@@ -39,7 +40,7 @@ pub fn refused(lent: &Lent) -> Option<i32> {
     lowest(&[
         (1, &|| tables_passed(tables)),
         (1, &|| wires_passed(lent)),
-        (1, &|| kind_unknown(tables)),
+        (1, &|| kind_or_preparation_unknown(tables)),
         (2, &|| end_unknown(tables)),
         (3, &|| use_unknown(uses(), tables.edges)),
         (4, &|| float_unfit(tables)),
@@ -79,18 +80,23 @@ fn use_count(lent: &Lent) -> u128 {
 }
 
 /// 1: the kind of an edge, of a vertex, or of a pending vertex's curve is
-/// none of 0 and 1. A given vertex has no curve kind.
-fn kind_unknown(tables: &Tables) -> bool {
+/// none of 0 and 1, or the preparation of an edge none of 0, 1 and 2. A given
+/// vertex has no curve kind, and a pending vertex's curve no preparation.
+fn kind_or_preparation_unknown(tables: &Tables) -> bool {
     let vertex = |row: usize| {
         let numbers = vertex_numbers(tables, row);
         numbers[0] > 1 || (numbers[0] == 1 && numbers[1] > 1)
     };
-    edge_kind_unknown(tables) || (0..tables.vertices).any(vertex)
+    edge_kind_or_preparation_unknown(tables) || (0..tables.vertices).any(vertex)
 }
 
-/// 1: the kind of an edge is none of 0 and 1.
-fn edge_kind_unknown(tables: &Tables) -> bool {
-    (0..tables.edges).any(|row| edge_numbers(tables, row)[2] > 1)
+/// 1: the kind of an edge is none of 0 and 1, or its preparation none of 0, 1
+/// and 2.
+fn edge_kind_or_preparation_unknown(tables: &Tables) -> bool {
+    (0..tables.edges).any(|row| {
+        let numbers = edge_numbers(tables, row);
+        numbers[2] > 1 || numbers[PREPARATION] > 2
+    })
 }
 
 /// 2: a vertex number in the edge table is not below the vertex count.

@@ -42,12 +42,45 @@ pub enum Vertex {
     Pending(Curve, f64),
 }
 
-/// Two vertex numbers and the curve between them.
+/// How an edge is prepared for its weld.
+#[derive(Clone, Copy, Debug, PartialEq, Eq)]
+pub enum Preparation {
+    Square = 0,
+    SingleBevel = 1,
+    DoubleBevel = 2,
+}
+
+impl Preparation {
+    /// All of them, in the order of their numbers.
+    pub const ALL: [Preparation; 3] = [
+        Preparation::Square,
+        Preparation::SingleBevel,
+        Preparation::DoubleBevel,
+    ];
+
+    /// One after the other, over and over.
+    pub fn in_turn(turn: usize) -> Preparation {
+        Self::ALL[turn % Self::ALL.len()]
+    }
+}
+
+/// Two vertex numbers, the curve between them, and the preparation.
 #[derive(Clone, Copy, Debug, PartialEq)]
 pub struct Edge {
     pub front: u32,
     pub back: u32,
     pub curve: Curve,
+    pub preparation: Preparation,
+}
+
+impl Edge {
+    /// The same edge with another preparation.
+    pub fn prepared(self, preparation: Preparation) -> Edge {
+        Edge {
+            preparation,
+            ..self
+        }
+    }
 }
 
 /// The whole input of a call, put together. A use is twice the edge number,

@@ -3,14 +3,17 @@
 //! moved and compared exactly.
 
 use crate::random::Random;
-use crate::records::{Curve, Edge, Shell, Vertex};
+use crate::records::{Curve, Edge, Preparation, Shell, Vertex};
 
 /// Number cells in a vertex row: kind, curve kind, curve or surface number.
 pub const VERTEX_NUMBERS: usize = 3;
 /// Float cells in a vertex row.
 pub const VERTEX_FLOATS: usize = 7;
-/// Number cells in an edge row: front, back, kind, curve or surface number.
-pub const EDGE_NUMBERS: usize = 4;
+/// Number cells in an edge row: front, back, kind, curve or surface number,
+/// preparation.
+pub const EDGE_NUMBERS: usize = 5;
+/// The preparation among the number cells of an edge row.
+pub const PREPARATION: usize = 4;
 /// Float cells in an edge row.
 pub const EDGE_FLOATS: usize = 6;
 
@@ -218,6 +221,16 @@ pub fn read_edge(numbers: &[u32], floats: &[u64]) -> Edge {
         front: numbers[0],
         back: numbers[1],
         curve: read_curve(numbers[2], numbers[3], floats),
+        preparation: read_preparation(numbers[PREPARATION]),
+    }
+}
+
+/// The preparation of a number. Only for one that is not refused.
+fn read_preparation(number: u32) -> Preparation {
+    match number {
+        0 => Preparation::Square,
+        1 => Preparation::SingleBevel,
+        _ => Preparation::DoubleBevel,
     }
 }
 
@@ -255,7 +268,8 @@ pub fn write_vertex(vertex: &Vertex, numbers: &mut [u32], floats: &mut [u64]) {
 /// Writes an edge over one row.
 pub fn write_edge(edge: &Edge, numbers: &mut [u32], floats: &mut [u64]) {
     let (kind, number) = write_curve(&edge.curve, floats);
-    numbers.copy_from_slice(&[edge.front, edge.back, kind, number]);
+    let preparation = edge.preparation as u32;
+    numbers.copy_from_slice(&[edge.front, edge.back, kind, number, preparation]);
 }
 
 /// Writes the floats of a curve and gives its kind and number.

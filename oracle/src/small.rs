@@ -1,10 +1,10 @@
-//! Every small shell: up to two vertices, two edges with all ends and kinds,
-//! two wires with up to three uses in all orders; for the closed-edge pass each
-//! in buffers of just the result's length, and with each buffer in turn one
-//! cell shorter.
+//! Every small shell: up to two vertices, two edges with all ends and kinds and
+//! with two of the three preparations in turn, two wires with up to three uses
+//! in all orders; for the closed-edge pass each in buffers of just the result's
+//! length, and with each buffer in turn one cell shorter.
 
 use crate::random::Random;
-use crate::records::{Curve, Edge, Shell, Vertex};
+use crate::records::{Curve, Edge, Preparation, Shell, Vertex};
 use crate::shell::{needed, Lent};
 
 /// Most uses in the two wires together.
@@ -98,6 +98,7 @@ fn edge(code: usize, i: usize, vertices: usize, turn: usize) -> Edge {
         front: (digit % vertices) as u32,
         back: (digit / vertices % vertices) as u32,
         curve: curve(digit / ends, turn + 5 * i),
+        preparation: Preparation::in_turn(turn + i),
     }
 }
 

@@ -10,9 +10,10 @@
 //!
 //! Behind it stands a second list, of altered records, which the word 0 ends
 //! too. In each of them one bit is another than the Rust's: of the answer, of
-//! an out value, or of the first or the last cell of a slice that may be
-//! written to. A replay must find none of them the same, so it is seen here
-//! that a replay does see differences.
+//! an out value, of the first or the last cell of a slice that may be written
+//! to, or of the cell there for the preparation of the first edge. A replay
+//! must find none of them the same, so it is seen here that a replay does see
+//! differences.
 //!
 //! How the lists are made: the inputs are drawn from the random families of
 //! each call, small and damaged ones among them, with a fixed seed. An input is
@@ -21,7 +22,8 @@
 //! Some more are drawn until they tell named other implementations from the
 //! right one, splits until they make several wires along seams, and some calls
 //! that are done are changed in one thing: a count at its bound or past it, one
-//! that wraps, a list with a vertex twice, two causes of a refusal at once.
+//! that wraps, a list with a vertex twice, an unknown preparation, two causes of
+//! a refusal at once.
 
 use crate::calls::cut_edge::CutEdge;
 use crate::calls::find_divisor::FindDivisor;
@@ -40,6 +42,8 @@ mod altered;
 mod changed;
 #[cfg(rust_at_hand)]
 mod make;
+#[cfg(rust_at_hand)]
+mod preparations;
 #[cfg(rust_at_hand)]
 pub use altered::altered;
 #[cfg(rust_at_hand)]

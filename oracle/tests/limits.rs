@@ -14,6 +14,23 @@ use oracle::reference::Reference;
 use oracle::shell::Lent;
 use std::collections::BTreeSet;
 
+/// The cases of preparations that every call over edges has.
+const OF_PREPARATIONS: [&str; 8] = [
+    "preparation 3 in a used edge row",
+    "preparation 3 in an unused edge row",
+    "largest preparation",
+    "largest preparation of an unused edge",
+    "preparation 3 and a front too large before it",
+    "preparation 3 and a back too large behind it",
+    "one number of each edge row too few",
+    "preparation 3 behind the edges",
+];
+
+/// The same with the names of further cases.
+fn with_preparations(more: &[&'static str]) -> Vec<&'static str> {
+    [&OF_PREPARATIONS, more].concat()
+}
+
 /// The reference, the model and the Rust give the written answers of a call;
 /// every answer occurs, no name stands twice, and these names stand there.
 fn hold<I: Families + std::fmt::Debug>(wanted: &[&str]) {
@@ -41,7 +58,7 @@ fn hold<I: Families + std::fmt::Debug>(wanted: &[&str]) {
 
 #[test]
 fn split_closed_edges() {
-    hold::<Lent>(&[
+    hold::<Lent>(&with_preparations(&[
         "K1",
         "K2",
         "K3",
@@ -62,7 +79,10 @@ fn split_closed_edges() {
         "NaN for t0 of a span",
         "NaN for u beside a span",
         "all counts the largest",
-    ]);
+        "a single bevel cell by cell",
+        "a double bevel cell by cell",
+        "closed and open edges of both bevels",
+    ]));
 }
 
 #[test]
@@ -97,18 +117,19 @@ fn sort_wires() {
 
 #[test]
 fn nearest_correction() {
-    hold::<NearestEnds>(&[
+    hold::<NearestEnds>(&with_preparations(&[
         "K9's own start",
         "coincident vertices",
         "equal after rounding",
         "no first stretch",
         "the last vertex pending",
-    ]);
+        "each preparation",
+    ]));
 }
 
 #[test]
 fn find_divisor() {
-    hold::<FindDivisor>(&[
+    hold::<FindDivisor>(&with_preparations(&[
         "K6",
         "K7",
         "K8",
@@ -116,12 +137,13 @@ fn find_divisor() {
         "an answer before 8",
         "8 before an answer",
         "7 before 8",
-    ]);
+        "each preparation",
+    ]));
 }
 
 #[test]
 fn cut_edge() {
-    hold::<CutEdge>(&[
+    hold::<CutEdge>(&with_preparations(&[
         "a cut cell by cell",
         "at t0",
         "at t1",
@@ -133,12 +155,17 @@ fn cut_edge() {
         "65 edges and 2 uses",
         "2 edges and 65 uses, no room",
         "unused edge, t0 above t1",
-    ]);
+        "a square line beside bevels",
+        "a single bevel beside others",
+        "a double bevel beside others",
+        "a double bevel cut cell by cell",
+        "no cut, a preparation unknown",
+    ]));
 }
 
 #[test]
 fn join_wires() {
-    hold::<JoinWires>(&[
+    hold::<JoinWires>(&with_preparations(&[
         "K15",
         "K16",
         "K15 cell by cell",
@@ -151,12 +178,13 @@ fn join_wires() {
         "3 uses laid and 65 new, no room",
         "63 new wires",
         "just enough room",
-    ]);
+        "each preparation",
+    ]));
 }
 
 #[test]
 fn split_wires() {
-    hold::<SplitWires>(&[
+    hold::<SplitWires>(&with_preparations(&[
         "K10",
         "K11",
         "K12",
@@ -181,5 +209,8 @@ fn split_wires() {
         "twice in the face, not rebuilt twice",
         "an edge in both directions",
         "unused edge, t0 above t1",
-    ]);
+        "each preparation",
+        "a square seam beside double bevels",
+        "a square seam among all preparations",
+    ]));
 }

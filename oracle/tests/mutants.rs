@@ -79,6 +79,8 @@ fn the_small_group_finds_every_wrong_result() {
     let wrong = [
         pass::wrong_results(),
         pass::wrong_vertices(),
+        pass::wrong_preparations(),
+        pass::wrong_cells_of_preparations(),
         pass::wrong_middles(),
     ];
     for (name, port) in wrong.into_iter().flatten() {
@@ -159,6 +161,7 @@ fn demand_3_alone_finds_wrong_splits() {
 fn the_small_group_finds_every_wrong_cut_and_join() {
     let cuts = vec![
         cut::wrong_pieces(),
+        cut::wrong_preparations(),
         cut::wrong_points(),
         cut::wrong_mending(),
         cut::wrong_without_cut(),

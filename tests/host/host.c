@@ -1,9 +1,9 @@
 /*
- * A host in C: worked cases of document 01 through the header and the
- * archive, and what the header defines. Every slice is a block of just its
- * size, so that a tool that watches memory sees a step beyond it. A line for
- * each case, and one for a refusal; the exit status is 1 where a case is not
- * the same.
+ * A host in C: worked cases of document 01 and preparations of edges through
+ * the header and the archive, and what the header defines. Every slice is a
+ * block of just its size, so that a tool that watches memory sees a step
+ * beyond it. A line for each case, and one for a refusal; the exit status is 1
+ * where a case is not the same.
  */
 #include "kaugrenna.h"
 
@@ -50,10 +50,17 @@ static void *block(const void *from, size_t n, size_t size) {
 #define FORWARD(edge) KAUGRENNA_USE(edge, 0)
 #define REVERSED(edge) KAUGRENNA_USE(edge, 1)
 
+/* The kind, number and preparation of an edge: a span of curve n, square or with a bevel. */
+#define SQUARE_SPAN(n) KAUGRENNA_SPAN, n, KAUGRENNA_SQUARE
+#define SINGLE_SPAN(n) KAUGRENNA_SPAN, n, KAUGRENNA_SINGLE_BEVEL
+#define DOUBLE_SPAN(n) KAUGRENNA_SPAN, n, KAUGRENNA_DOUBLE_BEVEL
+/* The row of an edge that is no input. */
+#define EDGE_MARKS MARK, MARK, MARK, MARK, MARK
+
 /* K9's edges and vertices, and its wire 1+ 2+ 0+ 3+ 4+ 0-. */
-static const uint32_t PIPE_EDGES[EDGE_NUMBERS(5)] = {
-    0, 2, KAUGRENNA_SPAN, 0, 0, 1, KAUGRENNA_SPAN, 0, 1, 0, KAUGRENNA_SPAN, 0,
-    2, 3, KAUGRENNA_SPAN, 0, 3, 2, KAUGRENNA_SPAN, 0};
+static const uint32_t PIPE_EDGES[EDGE_NUMBERS(5)] = {0, 2, SQUARE_SPAN(0), 0, 1, SQUARE_SPAN(0),
+                                                     1, 0, SQUARE_SPAN(0), 2, 3, SQUARE_SPAN(0),
+                                                     3, 2, SQUARE_SPAN(0)};
 static const double PIPE_FLOATS[EDGE_FLOATS(5)];
 static const uint32_t PIPE_VERTICES[VERTEX_NUMBERS(4)];
 static const double PIPE_POINTS[VERTEX_FLOATS(4)] = {1, 0, 0, 0, 0, 0, 0, -1, 0, 0, 0, 0, 0, 0,
@@ -74,11 +81,11 @@ static void header(void) {
     tell("texts", other == 17 && strcmp(kaugrenna_text(-2), kaugrenna_text(16)) == 0);
 }
 
-/* K1: the edge (0, 0) with span 7 from 0 to 8, wire 0+. */
+/* K1: the square edge (0, 0) with span 7 from 0 to 8, wire 0+. */
 static void k1(void) {
     const uint32_t given_vertices[VERTEX_NUMBERS(2)] = {KAUGRENNA_GIVEN};
     const double given_points[VERTEX_FLOATS(2)] = {0};
-    const uint32_t given_edges[EDGE_NUMBERS(2)] = {0, 0, KAUGRENNA_SPAN, 7};
+    const uint32_t given_edges[EDGE_NUMBERS(2)] = {0, 0, SQUARE_SPAN(7), EDGE_MARKS};
     const double given_floats[EDGE_FLOATS(2)] = {0, 0, 0, 0, 0, 8};
     const uint32_t given_uses[2] = {FORWARD(0), MARK}, given_lengths[1] = {1};
     uint32_t *vn = COPY(given_vertices), *en = COPY(given_edges);
@@ -89,7 +96,7 @@ static void k1(void) {
         LEND(vn, given_vertices), LEND(vf, given_points), LEND(en, given_edges),
         LEND(ef, given_floats), LEND(us, given_uses), LEND(ls, given_lengths), 1, 1, 1, &v, &e, &n);
     const uint32_t vertices[] = {KAUGRENNA_GIVEN, 0, 0, KAUGRENNA_PENDING, KAUGRENNA_SPAN, 7};
-    const uint32_t edges[] = {0, 1, KAUGRENNA_SPAN, 7, 1, 0, KAUGRENNA_SPAN, 7};
+    const uint32_t edges[] = {0, 1, SQUARE_SPAN(7), 1, 0, SQUARE_SPAN(7)};
     const double floats[] = {0, 0, 0, 0, 0, 4, 0, 0, 0, 0, 4, 8};
     const double points[] = {0, 0, 0, 0, 0, 0, 0, 0, 0, 0, 0, 0, 8, 4};
     const uint32_t uses[] = {FORWARD(0), FORWARD(1)}, lengths[] = {2};
@@ -112,12 +119,13 @@ static void k1(void) {
     free(vn), free(vf), free(en), free(ef), free(us), free(ls);
 }
 
-/* Edge 1 = (1, 0) from 0 to 2, cut at 1 by (1, 0, 2): the wire 1+ 0+ 1- becomes 1+ 2+ 0+ 2- 1-. */
+/* Edge 1 = (1, 0) from 0 to 2 with double bevel, beside one with single bevel, cut at 1 by
+   (1, 0, 2): the wire 1+ 0+ 1- becomes 1+ 2+ 0+ 2- 1-, and both pieces have double bevel. */
 static void one_cut(void) {
     const uint32_t given_vertices[VERTEX_NUMBERS(3)] = {KAUGRENNA_GIVEN};
     const double given_points[VERTEX_FLOATS(3)] = {0};
-    const uint32_t given_edges[EDGE_NUMBERS(3)] = {0, 1, KAUGRENNA_SPAN, 7,
-                                                   1, 0, KAUGRENNA_SPAN, 7};
+    const uint32_t given_edges[EDGE_NUMBERS(3)] = {
+        0, 1, SINGLE_SPAN(7), 1, 0, DOUBLE_SPAN(7), EDGE_MARKS};
     const double given_floats[EDGE_FLOATS(3)] = {0, 0, 0, 0, 0, 2, 0, 0, 0, 0, 0, 2};
     const uint32_t given_uses[5] = {FORWARD(1), FORWARD(0), REVERSED(1)}, given_lengths[1] = {3};
     const double given_cuts[2 * KAUGRENNA_FLOATS_PER_CUT] = {1, 1, 0, 2, 1, 0, 0, 0};
@@ -136,8 +144,7 @@ static void one_cut(void) {
         LEND(vn, given_vertices), LEND(vf, given_points), LEND(en, given_edges),
         LEND(ef, given_floats), LEND(us, given_uses), LEND(ls, given_lengths),
         LEND(cuts, given_cuts), 2, 2, 1, 1, 1, &v, &e, &n);
-    const uint32_t edges[] = {0, 1, KAUGRENNA_SPAN, 7, 1, 2, KAUGRENNA_SPAN, 7,
-                              2, 0, KAUGRENNA_SPAN, 7};
+    const uint32_t edges[] = {0, 1, SINGLE_SPAN(7), 1, 2, DOUBLE_SPAN(7), 2, 0, DOUBLE_SPAN(7)};
     const double floats[] = {0, 0, 0, 0, 0, 2, 0, 0, 0, 0, 0, 1, 0, 0, 0, 0, 1, 2};
     const double points[] = {0, 0, 0, 0, 0, 0, 0, 0, 0, 0, 0, 0, 0, 0, 1, 0, 2, 0, 0, 0, 0};
     const uint32_t uses[] = {FORWARD(1), FORWARD(2), FORWARD(0), REVERSED(2), REVERSED(1)};
@@ -230,7 +237,7 @@ static void split(void) {
         LEND(en, given_edges), LEND(ef, given_floats), LEND(wire, PIPE_WIRE), LEND(size, six),
         LEND(wire, PIPE_WIRE), LEND(size, six), LEND(ds, list), LEND(fs, given_points),
         LEND(us, marks), LEND(ls, marks), 4, 5, 1, 1, 2, 7, &w, &n, &e);
-    const uint32_t seam[] = {3, 1, KAUGRENNA_SEAM, 7};
+    const uint32_t seam[] = {3, 1, KAUGRENNA_SEAM, 7, KAUGRENNA_SQUARE};
     const uint32_t uses[] = {FORWARD(0), FORWARD(3),  FORWARD(5), FORWARD(2),
                              FORWARD(1), REVERSED(5), FORWARD(4), REVERSED(0)};
     const uint32_t lengths[8] = {4, 4, MARK, MARK, MARK, MARK, MARK, MARK};
@@ -263,6 +270,69 @@ static void join(void) {
     free(en), free(ef), free(a), free(b), free(us), free(ls);
 }
 
+/* The rims of a pipe with a single bevel, as the pass leaves them, and their wires. */
+#define CUT_RIMS \
+    0, 2, SINGLE_SPAN(0), 1, 3, SINGLE_SPAN(1), 2, 0, SINGLE_SPAN(0), 3, 1, SINGLE_SPAN(1)
+static const uint32_t CUT_WIRES[] = {FORWARD(0), FORWARD(2), REVERSED(3), REVERSED(1)};
+static const uint32_t CUT_LENGTHS[] = {2, 2};
+
+/* The pass over the rims 0 = (0, 0) and 1 = (1, 1) with the wires 0+ and 1-; what is no preparation
+   is refused first. */
+static void bevelled_rims(void) {
+    const uint32_t given_vertices[VERTEX_NUMBERS(4)] = {KAUGRENNA_GIVEN};
+    const double given_points[VERTEX_FLOATS(4)] = {1, 0, 0, 0, 0, 0, 0, 1, 0, 4};
+    const uint32_t unknown = KAUGRENNA_DOUBLE_BEVEL + 1;
+    const uint32_t given_edges[EDGE_NUMBERS(4)] = {
+        0, 0, SINGLE_SPAN(0), 1, 1, KAUGRENNA_SPAN, 1, unknown, EDGE_MARKS, EDGE_MARKS};
+    const double given_floats[EDGE_FLOATS(4)] = {0, 0, 0, 0, 0, 8, 0, 0, 0, 0, 0, 8};
+    const uint32_t given_uses[4] = {FORWARD(0), REVERSED(1), MARK, MARK};
+    const uint32_t given_lengths[2] = {1, 1};
+    uint32_t *vn = COPY(given_vertices), *en = COPY(given_edges);
+    uint32_t *us = COPY(given_uses), *ls = COPY(given_lengths);
+    double *vf = COPY(given_points), *ef = COPY(given_floats);
+    size_t v = MARK, e = MARK, n = MARK;
+    int32_t code = kaugrenna_split_closed_edges(
+        LEND(vn, given_vertices), LEND(vf, given_points), LEND(en, given_edges),
+        LEND(ef, given_floats), LEND(us, given_uses), LEND(ls, given_lengths), 2, 2, 2, &v, &e, &n);
+    tell("no preparation", code == KAUGRENNA_MALFORMED && v == MARK && e == MARK && n == MARK &&
+                               SAME(vn, given_vertices) && SAME(vf, given_points) &&
+                               SAME(en, given_edges) && SAME(ef, given_floats) &&
+                               SAME(us, given_uses) && SAME(ls, given_lengths));
+    /* With the bevel of the first rim the second one is cut too. */
+    en[EDGE_NUMBERS(2) - 1] = KAUGRENNA_SINGLE_BEVEL;
+    code = kaugrenna_split_closed_edges(
+        LEND(vn, given_vertices), LEND(vf, given_points), LEND(en, given_edges),
+        LEND(ef, given_floats), LEND(us, given_uses), LEND(ls, given_lengths), 2, 2, 2, &v, &e, &n);
+    const uint32_t edges[] = {CUT_RIMS};
+    const uint32_t pending[] = {KAUGRENNA_PENDING, KAUGRENNA_SPAN, 0,
+                                KAUGRENNA_PENDING, KAUGRENNA_SPAN, 1};
+    tell("bevelled rims", code == KAUGRENNA_DONE && v == 4 && e == 4 && n == 4 &&
+                              SAME(en, edges) && SAME(vn + VERTEX_NUMBERS(2), pending) &&
+                              SAME(us, CUT_WIRES) && SAME(ls, CUT_LENGTHS));
+    free(vn), free(vf), free(en), free(ef), free(us), free(ls);
+}
+
+/* A seam from 0 to 1 between the rims, none of whose wires is rebuilt: the wire 4+ 4-. */
+static void square_seam(void) {
+    const uint32_t given_edges[EDGE_NUMBERS(5)] = {CUT_RIMS, EDGE_MARKS};
+    const double given_floats[EDGE_FLOATS(5)] = {0};
+    const double given_points[2 * KAUGRENNA_FLOATS_PER_STOP] = {0, 0, 0, 4};
+    const uint32_t list[] = {0, 1}, marks[] = {MARK, MARK};
+    uint32_t *en = COPY(given_edges), *wires = COPY(CUT_WIRES), *sizes = COPY(CUT_LENGTHS);
+    uint32_t *ds = COPY(list), *us = COPY(marks), *ls = COPY(marks);
+    double *ef = COPY(given_floats), *fs = COPY(given_points);
+    size_t w = MARK, n = MARK, e = MARK;
+    int32_t code = kaugrenna_split_boundaries_by_divisor(
+        LEND(en, given_edges), LEND(ef, given_floats), LEND(wires, CUT_WIRES),
+        LEND(sizes, CUT_LENGTHS), wires, 0, sizes, 0, LEND(ds, list), LEND(fs, given_points),
+        LEND(us, marks), LEND(ls, marks), 4, 4, 2, 0, 2, 7, &w, &n, &e);
+    const uint32_t edges[] = {CUT_RIMS, 0, 1, KAUGRENNA_SEAM, 7, KAUGRENNA_SQUARE};
+    const uint32_t uses[] = {FORWARD(4), REVERSED(4)}, lengths[] = {2, MARK};
+    tell("square seam", code == KAUGRENNA_DONE && w == 1 && n == 2 && e == 5 &&
+                            SAME(en, edges) && SAME(us, uses) && SAME(ls, lengths));
+    free(en), free(ef), free(wires), free(sizes), free(ds), free(fs), free(us), free(ls);
+}
+
 int main(void) {
     header();
     k1();
@@ -271,5 +341,7 @@ int main(void) {
     search();
     split();
     join();
+    bevelled_rims();
+    square_seam();
     return failures != 0;
 }

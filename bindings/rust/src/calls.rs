@@ -72,15 +72,16 @@ fn found(code: i32) -> Result<bool, Refusal> {
 }
 
 /// Cuts every edge with equal ends at the middle of its curve, and mends every
-/// wire, in place.
+/// wire, in place. Both pieces have the preparation of the edge that was cut.
 ///
-/// K1 of document 01, the edge (0, 0) with span 7 from 0 to 8 and wire 0+:
+/// K1 of document 01, the square edge (0, 0) with span 7 from 0 to 8 and wire
+/// 0+:
 ///
 /// ```
 /// use kaugrenna::{split_closed_edges, Counts, TablesMut, WiresMut};
 ///
 /// let (mut vertex_numbers, mut vertex_floats) = ([0; 6], [0.0; 14]);
-/// let mut edge_numbers = [0, 0, 0, 7, 0, 0, 0, 0];
+/// let mut edge_numbers = [0, 0, 0, 7, 0, 0, 0, 0, 0, 0];
 /// let mut edge_floats = [0.0; 12];
 /// edge_floats[5] = 8.0;
 /// let (mut uses, mut lengths) = ([0, 0], [1]);
@@ -95,7 +96,7 @@ fn found(code: i32) -> Result<bool, Refusal> {
 /// let wires = WiresMut { uses: &mut uses, lengths: &mut lengths, count: 1 };
 /// let counts = split_closed_edges(tables, wires)?;
 /// assert_eq!(counts, Counts { vertices: 2, edges: 2, uses: 2 });
-/// assert_eq!(edge_numbers, [0, 1, 0, 7, 1, 0, 0, 7]);
+/// assert_eq!(edge_numbers, [0, 1, 0, 7, 0, 1, 0, 0, 7, 0]);
 /// assert_eq!((uses, lengths), ([0, 2], [2]));
 /// # Ok::<(), kaugrenna::Refusal>(())
 /// ```
@@ -106,7 +107,8 @@ pub fn split_closed_edges(tables: TablesMut<'_>, wires: WiresMut<'_>) -> Result<
 }
 
 /// Cuts edge number `edge` at a parameter and point, and mends every wire, in
-/// place. No cut changes nothing; two or more are refused.
+/// place. Both pieces have the preparation of the edge that was cut. No cut
+/// changes nothing; two or more are refused.
 pub fn cut_edge_by_intersections(
     tables: TablesMut<'_>,
     wires: WiresMut<'_>,
@@ -177,8 +179,8 @@ pub fn find_non_simple_wire_divisor(
     found(code).map(|there| there.then_some([a, b]))
 }
 
-/// Rebuilds wires of a face along a divisor: its seams are appended to the
-/// edge table, and the wires that are built go to the room.
+/// Rebuilds wires of a face along a divisor: its seams, which are square, are
+/// appended to the edge table, and the wires that are built go to the room.
 ///
 /// K10 of document 01, a pipe with a slit, divided from vertex 3 to vertex 1:
 ///
@@ -186,8 +188,9 @@ pub fn find_non_simple_wire_divisor(
 /// use kaugrenna::{split_boundaries_by_divisor, Divisor, EdgesMut, Rebuilt, Room, Wires};
 ///
 /// let mut numbers = [
-///     0, 2, 0, 0, 0, 1, 0, 0, 1, 0, 0, 0, 2, 3, 0, 0, 3, 2, 0, 0, // five edges
-///     0, 0, 0, 0, // room for the seam
+///     0, 2, 0, 0, 0, 0, 1, 0, 0, 0, 1, 0, 0, 0, 0, // an edge along the pipe, a rim
+///     2, 3, 0, 0, 0, 3, 2, 0, 0, 0, // the other rim
+///     0, 0, 0, 0, 0, // room for the seam
 /// ];
 /// let (mut floats, mut uses, mut lengths) = ([0.0; 36], [0; 8], [0; 8]);
 /// let edges = EdgesMut { numbers: &mut numbers, floats: &mut floats, count: 5, vertices: 4 };
@@ -201,7 +204,7 @@ pub fn find_non_simple_wire_divisor(
 /// let room = Room { uses: &mut uses, lengths: &mut lengths };
 /// let rebuilt = split_boundaries_by_divisor(edges, [face, face], divisor, room)?;
 /// assert_eq!(rebuilt, Rebuilt { wires: 2, uses: 8, edges: 6 });
-/// assert_eq!(numbers[20..], [3, 1, 1, 7]);
+/// assert_eq!(numbers[25..], [3, 1, 1, 7, 0]);
 /// assert_eq!((uses, &lengths[..2]), ([0, 6, 10, 4, 2, 11, 8, 1], &[4, 4][..]));
 /// # Ok::<(), kaugrenna::Refusal>(())
 /// ```

@@ -11,8 +11,9 @@ pub const VERTEX_NUMBERS: usize = 3;
 /// and the parameter.
 pub const VERTEX_FLOATS: usize = 7;
 /// Number cells in an edge row: front, back, kind (0 span, 1 seam), curve or
-/// surface number.
-pub const EDGE_NUMBERS: usize = 4;
+/// surface number, preparation for the weld (see
+/// [`Preparation`](crate::Preparation)).
+pub const EDGE_NUMBERS: usize = 5;
 /// Float cells in an edge row: u, v, u, v, t0, t1; a span has the last two.
 pub const EDGE_FLOATS: usize = 6;
 /// Float cells of a cut: parameter, x, y, z.

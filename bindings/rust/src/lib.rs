@@ -11,6 +11,7 @@ mod calls;
 mod edge_use;
 pub mod lent;
 mod owned;
+mod preparation;
 pub mod raw;
 mod refusal;
 
@@ -19,4 +20,5 @@ pub use edge_use::{NoUse, Use};
 pub use lent::{Cuts, Divisor, Edges, EdgesMut, Room, Stretch};
 pub use lent::{Tables, TablesMut, Wires, WiresMut};
 pub use owned::{OwnedTables, OwnedWires};
+pub use preparation::{NoPreparation, Preparation};
 pub use refusal::Refusal;

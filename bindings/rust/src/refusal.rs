@@ -17,7 +17,8 @@ const APART: &str = "module and archive do not belong together";
 #[non_exhaustive]
 pub enum Refusal {
     /// 1: a count is above its bound or above what was lent, the sum of the
-    /// wire lengths is, or a kind is neither 0 nor 1.
+    /// wire lengths is, a kind is neither 0 nor 1, or a preparation is above
+    /// 2.
     Malformed,
     /// 2: a vertex number, in an edge or by itself, is not below the vertex
     /// count.
@@ -118,7 +119,7 @@ impl fmt::Display for Refusal {
         let sentence = match self {
             Refusal::Malformed => {
                 "a count is above its bound or above what was lent, the sum of the wire lengths \
-                 is, or a kind is neither 0 nor 1"
+                 is, a kind is neither 0 nor 1, or a preparation is above 2"
             }
             Refusal::VertexNumber => {
                 "a vertex number, in an edge or by itself, is not below the vertex count"

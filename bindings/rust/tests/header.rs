@@ -6,7 +6,7 @@ use std::fs;
 use std::path::Path;
 
 use kaugrenna::raw::{self, Period};
-use kaugrenna::{lent, BoundaryType, Refusal};
+use kaugrenna::{lent, BoundaryType, Preparation, Refusal};
 
 const HEADER: &str = include_str!("../../../include/kaugrenna.h");
 
@@ -167,6 +167,8 @@ fn the_constants_are_those_of_the_module() {
         BoundaryType::NotClosed,
     ];
     module.extend(kinds.map(|kind| (as_constant(kind), f64::from(kind as u32))));
+    let preparations = Preparation::ALL.map(|one| (as_constant(one), u32::from(one).into()));
+    module.extend(preparations);
     let refusals = Refusal::ALL.map(|refusal| (as_constant(refusal), refusal.number().into()));
     module.extend(refusals);
     assert_eq!(constants(), module);
@@ -175,7 +177,7 @@ fn the_constants_are_those_of_the_module() {
 }
 
 #[test]
-fn the_widths_and_the_refusals_are_those_of_the_crates() {
+fn the_widths_the_preparations_and_the_refusals_are_those_of_the_crates() {
     let crates = [
         include_str!("../../../crates/compress/src/lib.rt"),
         include_str!("../../../crates/one_cut/src/cuts.rt"),
@@ -187,7 +189,9 @@ fn the_widths_and_the_refusals_are_those_of_the_crates() {
     let lines = widths.map(|(name, width)| format!("const {name}: usize = {width};\n"));
     let mut lines: Vec<_> = lines.collect();
     assert_eq!(lines.len(), 7);
-    lines.extend(Refusal::ALL.map(|refusal| format!("    {refusal:?} = {},\n", refusal.number())));
+    let case = |case: &dyn std::fmt::Debug, number| format!("    {case:?} = {number},\n");
+    lines.extend(Preparation::ALL.map(|preparation| case(&preparation, preparation as i32)));
+    lines.extend(Refusal::ALL.map(|refusal| case(&refusal, refusal.number())));
     for line in lines {
         assert!(crates.concat().contains(&line), "{line}");
     }

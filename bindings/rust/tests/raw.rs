@@ -2,7 +2,8 @@
 //! past everything, and whether out places keep what they held.
 
 use kaugrenna::raw::{self, Period, DONE, NONE};
-use kaugrenna::{Edges, Stretch, Tables, Wires, WiresMut};
+use kaugrenna::{Cuts, Divisor, Edges, OwnedTables, OwnedWires, Room};
+use kaugrenna::{Stretch, Tables, Wires, WiresMut};
 
 /// What a float place holds before a call: a NaN that signals.
 const MARK: u64 = 0x7ff0_0000_0000_0001;
@@ -99,4 +100,71 @@ fn counts_past_everything() {
     };
     let asked = counts(|out| raw::split_closed_edges(tables, wires, out));
     assert_eq!(asked, (1, [7, 8, 9]));
+}
+
+/// One vertex and a closed edge with a preparation that is none.
+fn unknown_preparation() -> OwnedTables {
+    OwnedTables {
+        vertex_numbers: vec![0; 6],
+        vertex_floats: vec![0.0; 14],
+        edge_numbers: vec![0, 0, 0, 7, 3, 0, 0, 0, 0, 0],
+        edge_floats: vec![0.0; 12],
+        vertices: 1,
+        edges: 1,
+    }
+}
+
+#[test]
+fn places_of_the_cuts_after_an_unknown_preparation() {
+    let mut wires = OwnedWires::default();
+    let mut tables = unknown_preparation();
+    let pass = counts(|out| raw::split_closed_edges(tables.lend_mut(), wires.lend_mut(), out));
+    assert_eq!(pass, (1, [7, 8, 9]));
+    let cuts = Cuts {
+        floats: &[0.0; 4],
+        count: 1,
+    };
+    let cut = counts(|out| {
+        let (tables, wires) = (tables.lend_mut(), wires.lend_mut());
+        raw::cut_edge_by_intersections(tables, wires, cuts, 0, out)
+    });
+    assert_eq!(cut, (1, [7, 8, 9]));
+    assert_eq!(tables.edge_numbers, unknown_preparation().edge_numbers);
+}
+
+#[test]
+fn places_of_the_lookups_after_an_unknown_preparation() {
+    let (tables, wires) = (unknown_preparation(), OwnedWires::default());
+    let nothing = Stretch::from(&[][..]);
+    let mut ends = [8, 9];
+    let nearest = raw::nearest_correction(tables.lend(), nothing, nothing, 0, ends.each_mut());
+    assert_eq!((nearest, ends), (1, [8, 9]));
+    let search = raw::find_non_simple_wire_divisor(tables.lend(), wires.lend(), ends.each_mut());
+    assert_eq!((search, ends), (1, [8, 9]));
+}
+
+#[test]
+fn places_of_split_and_join_after_an_unknown_preparation() {
+    let mut tables = unknown_preparation();
+    let mut wires = OwnedWires::default();
+    let divisor = Divisor {
+        vertices: &[],
+        points: &[],
+        count: 0,
+        surface: 0,
+    };
+    let split = counts(|out| {
+        let room = Room {
+            uses: &mut [],
+            lengths: &mut [],
+        };
+        let face = [wires.lend(); 2];
+        raw::split_boundaries_by_divisor(tables.edges_mut(), face, divisor, room, out)
+    });
+    assert_eq!(split, (1, [7, 8, 9]));
+    let open = [Stretch::from(&[0][..]); 2];
+    let mut uses = 9;
+    let join =
+        raw::connect_open_boundaries(tables.edges(), open, wires.lend_mut(), [0; 2], &mut uses);
+    assert_eq!((join, uses), (1, 9));
 }

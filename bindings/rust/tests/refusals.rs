@@ -3,16 +3,15 @@
 
 mod common;
 
-use common::{wire, Shell, Split, MARK, PIPE_WIRE};
+use common::{wire, Shell, Split, MARK, PIPE, PIPE_WIRE};
+use kaugrenna::lent::EDGE_NUMBERS;
 use kaugrenna::{boundary_type, get_mindiff, nearest_copy, sort_wires};
 use kaugrenna::{connect_open_boundaries, cut_edge_by_intersections};
 use kaugrenna::{find_non_simple_wire_divisor, nearest_correction, split_closed_edges};
 use kaugrenna::{Cuts, Refusal};
 
-/// What the pass refuses, after a change of K1; nothing lent is changed.
-fn pass(change: impl Fn(&mut Shell)) -> Option<Refusal> {
-    let mut shell = Shell::new(&[[0.0; 3]], &[[0, 0]], &["0+"], 1);
-    change(&mut shell);
+/// What the pass refuses; nothing lent is changed.
+fn pass_over(mut shell: Shell) -> Option<Refusal> {
     let before = shell.cells();
     let (tables, wires) = shell.lend();
     let answer = split_closed_edges(tables, wires).err();
@@ -20,9 +19,16 @@ fn pass(change: impl Fn(&mut Shell)) -> Option<Refusal> {
     answer
 }
 
-/// What one cut refuses, with so many cuts at this parameter.
-fn cut(t: f64, count: usize, edge: u32) -> Option<Refusal> {
-    let mut shell = Shell::pipe(&[PIPE_WIRE], 1);
+/// The same, after a change of K1.
+fn pass(change: impl Fn(&mut Shell)) -> Option<Refusal> {
+    let mut shell = Shell::new(&[[0.0; 3]], &[[0, 0]], &["0+"], 1);
+    change(&mut shell);
+    pass_over(shell)
+}
+
+/// What one cut refuses, with so many cuts at this parameter; nothing lent is
+/// changed.
+fn cut_over(mut shell: Shell, t: f64, count: usize, edge: u32) -> Option<Refusal> {
     let before = shell.cells();
     let (tables, wires) = shell.lend();
     let floats = &[t, 0.0, 0.0, 0.0, t, 0.0, 0.0, 0.0];
@@ -32,10 +38,13 @@ fn cut(t: f64, count: usize, edge: u32) -> Option<Refusal> {
     answer
 }
 
-/// What a split refuses, after a change of K10; nothing lent is changed.
-fn split(change: impl Fn(&mut Split)) -> Option<Refusal> {
-    let mut split = Split::new(Shell::pipe(&[PIPE_WIRE], 1), &[3, 1]);
-    change(&mut split);
+/// The same, over K9's edges and wire.
+fn cut(t: f64, count: usize, edge: u32) -> Option<Refusal> {
+    cut_over(Shell::pipe(&[PIPE_WIRE], 1), t, count, edge)
+}
+
+/// What a split refuses; nothing lent is changed.
+fn split_over(mut split: Split) -> Option<Refusal> {
     let before = split.clone();
     let answer = split.ask().err();
     let kept = split.shell.cells() == before.shell.cells()
@@ -44,9 +53,15 @@ fn split(change: impl Fn(&mut Split)) -> Option<Refusal> {
     answer
 }
 
-/// What a join refuses, over K15 with this first wire, v0 and room.
-fn join(first: &str, v0: u32, room: usize) -> Option<Refusal> {
-    let mut shell = Shell::pipe(&["0+ 0-"], room);
+/// The same, after a change of K10.
+fn split(change: impl Fn(&mut Split)) -> Option<Refusal> {
+    let mut split = Split::new(Shell::pipe(&[PIPE_WIRE], 1), &[3, 1]);
+    change(&mut split);
+    split_over(split)
+}
+
+/// What a join refuses, with this first wire and v0; nothing lent is changed.
+fn join_over(mut shell: Shell, first: &str, v0: u32) -> Option<Refusal> {
     let before = shell.cells();
     let [first, second] = [first, "3+ 4+"].map(wire);
     let open = [first[..].into(), second[..].into()];
@@ -56,10 +71,13 @@ fn join(first: &str, v0: u32, room: usize) -> Option<Refusal> {
     answer
 }
 
-/// What nearest ends and the search refuse, after a change of K9.
-fn lookups(v0: u32, change: impl Fn(&mut Shell)) -> [Option<Refusal>; 2] {
-    let mut shell = Shell::pipe(&[PIPE_WIRE], 0);
-    change(&mut shell);
+/// The same, over K15 with this room.
+fn join(first: &str, v0: u32, room: usize) -> Option<Refusal> {
+    join_over(Shell::pipe(&["0+ 0-"], room), first, v0)
+}
+
+/// What nearest ends and the search refuse; nothing lent is changed.
+fn lookups_over(shell: Shell, v0: u32) -> [Option<Refusal>; 2] {
     let before = shell.cells();
     let [first, second] = ["3+ 4+", "1+ 2+"].map(wire);
     let (first, second) = (first[..].into(), second[..].into());
@@ -67,6 +85,36 @@ fn lookups(v0: u32, change: impl Fn(&mut Shell)) -> [Option<Refusal>; 2] {
     let search = find_non_simple_wire_divisor(shell.tables.lend(), shell.wires.lend()).err();
     assert_eq!(shell.cells(), before);
     [ends, search]
+}
+
+/// The same, after a change of K9.
+fn lookups(v0: u32, change: impl Fn(&mut Shell)) -> [Option<Refusal>; 2] {
+    let mut shell = Shell::pipe(&[PIPE_WIRE], 0);
+    change(&mut shell);
+    lookups_over(shell, v0)
+}
+
+/// The number of an edge that no wire uses, closed, behind those of K9.
+const SPARE: usize = 5;
+
+/// What the six calls that are lent edges refuse, after a change of K9's edges
+/// and the spare one: pass, one cut, nearest ends, search, split and join.
+fn all_with_edges(change: impl Fn(&mut Shell)) -> [Option<Refusal>; 6] {
+    let shell = |wire| {
+        let edges = [&PIPE[..], &[[0, 0]]].concat();
+        let mut shell = Shell::new(&[[0.0; 3]; 4], &edges, &[wire], 4);
+        change(&mut shell);
+        shell
+    };
+    let [ends, search] = lookups_over(shell(PIPE_WIRE), 3);
+    [
+        pass_over(shell(PIPE_WIRE)),
+        cut_over(shell(PIPE_WIRE), 2.0, 1, 1),
+        ends,
+        search,
+        split_over(Split::new(shell(PIPE_WIRE), &[3, 1])),
+        join_over(shell("0+ 0-"), "1+ 2+", 0),
+    ]
 }
 
 #[test]
@@ -188,6 +236,57 @@ fn refusals_of_the_join() {
     assert_eq!(join("1+ 5+", 0, 4), Some(Refusal::EdgeNumber));
     assert_eq!(join("1+ 2+", 0, 3), Some(Refusal::NoRoom));
     assert_eq!(join("", 0, 4), Some(Refusal::EmptyOpenWire));
+}
+
+#[test]
+fn refusals_of_a_preparation_used_or_not() {
+    for edge in 0..=SPARE {
+        for known in [0, 1, 2] {
+            assert_eq!(all_with_edges(|s| s.prepare(edge, known)), [None; 6]);
+        }
+        for unknown in [3, 4, 0x100, 1 << 31, u32::MAX] {
+            let answers = all_with_edges(|s| s.prepare(edge, unknown));
+            assert_eq!(answers, [Some(Refusal::Malformed); 6], "{edge}: {unknown}");
+        }
+    }
+}
+
+#[test]
+fn an_unknown_preparation_comes_before_a_vertex_number() {
+    let no_vertex = |shell: &mut Shell| shell.tables.edge_numbers[0] = 4;
+    assert_eq!(all_with_edges(no_vertex), [Some(Refusal::VertexNumber); 6]);
+    // In the same edge, and in an edge behind it.
+    for edge in [0, SPARE] {
+        let both = |shell: &mut Shell| {
+            no_vertex(shell);
+            shell.prepare(edge, 3);
+        };
+        assert_eq!(all_with_edges(both), [Some(Refusal::Malformed); 6]);
+    }
+}
+
+#[test]
+fn refusals_of_too_few_numbers_for_the_edges() {
+    let lent = |cells| all_with_edges(|shell| shell.tables.edge_numbers.truncate(cells));
+    let edges = SPARE + 1;
+    for too_few in [4 * edges, EDGE_NUMBERS * edges - 1] {
+        assert_eq!(lent(too_few), [Some(Refusal::Malformed); 6]);
+    }
+    // With no row of room; nearest ends, search and join need none.
+    let no_room = Some(Refusal::NoRoom);
+    let answers = [no_room, no_room, None, None, no_room, None];
+    assert_eq!(lent(EDGE_NUMBERS * edges), answers);
+}
+
+#[test]
+fn a_preparation_behind_the_count_is_no_input() {
+    for number in [3, u32::MAX] {
+        let behind = |shell: &mut Shell| {
+            shell.prepare(SPARE, number);
+            shell.tables.edges = SPARE;
+        };
+        assert_eq!(all_with_edges(behind), [None; 6]);
+    }
 }
 
 #[test]

@@ -1,4 +1,5 @@
-//! The worked cases of document 01, through the safe layer.
+//! The worked cases of document 01, through the safe layer, and what becomes
+//! of preparations, which are square there.
 
 mod common;
 
@@ -25,7 +26,9 @@ fn k1_and_k2_a_closed_edge_is_cut() {
         };
         assert_eq!(split_closed_edges(tables, wires), Ok(counts));
         let Shell { tables, wires } = shell;
-        assert_eq!(tables.edge_numbers[..9], [0, 1, 0, 7, 1, 0, 0, 7, MARK]);
+        let edges = [[0, 1, 0, 7, 0], [1, 0, 0, 7, 0]].concat();
+        assert_eq!(tables.edge_numbers[..10], edges);
+        assert_eq!(tables.edge_numbers[10], MARK);
         let ranges = [&tables.edge_floats[4..6], &tables.edge_floats[10..12]];
         assert_eq!(ranges, [[0.0, 4.0], [4.0, 8.0]]);
         assert_eq!(tables.vertex_numbers[3..7], [1, 0, 7, MARK]);
@@ -104,8 +107,8 @@ fn one_cut() {
     });
     assert_eq!([cut(0), cut(1)], [Ok(no_cut), Ok(one_cut)]);
     let Shell { tables, wires } = shell;
-    assert_eq!(tables.edge_numbers[4..8], [0, 4, 0, 7]);
-    assert_eq!(tables.edge_numbers[20..25], [4, 1, 0, 7, MARK]);
+    assert_eq!(tables.edge_numbers[5..10], [0, 4, 0, 7, 0]);
+    assert_eq!(tables.edge_numbers[25..31], [4, 1, 0, 7, 0, MARK]);
     let ranges = [&tables.edge_floats[10..12], &tables.edge_floats[34..36]];
     assert_eq!(ranges, [[0.0, 2.0], [2.0, 8.0]]);
     assert_eq!(tables.vertex_floats[28..31], [1.0, 0.0, 3.0]);
@@ -122,7 +125,7 @@ fn k10_a_split() {
         edges: 6,
     };
     assert_eq!(split.ask(), Ok(rebuilt));
-    assert_eq!(split.shell.tables.edge_numbers[20..], [3, 1, 1, 3]);
+    assert_eq!(split.shell.tables.edge_numbers[25..], [3, 1, 1, 3, 0]);
     let seam = [0.0, 1.0, 2.0, 3.0, 0.0, 1.0];
     assert_eq!(split.shell.tables.edge_floats[30..], seam);
     let built = [wire("0+ 3+ 5+ 2+"), wire("1+ 5- 4+ 0-"), vec![MARK]];
@@ -186,4 +189,125 @@ fn sorting() {
     let sorted = sort_wires(&ends, 3, &mut open, &mut closed);
     assert_eq!(sorted, Ok(Some(1)));
     assert_eq!((open, closed), ([0, 2, MARK], [1, MARK]));
+}
+
+/// K9's edges with the preparations 0, 1, 2, 1, 2.
+fn bevelled_pipe(wires: &[&str], room: usize) -> Shell {
+    let mut shell = Shell::pipe(wires, room);
+    for (edge, preparation) in [0, 1, 2, 1, 2].into_iter().enumerate() {
+        shell.prepare(edge, preparation);
+    }
+    shell
+}
+
+#[test]
+fn the_pass_gives_both_pieces_the_preparation_of_the_edge() {
+    let ends = [[0, 0], [0, 1], [1, 1], [1, 1]];
+    let mut shell = Shell::new(&[[0.0; 3]; 2], &ends, &["0+ 1+ 2- 3- 1-"], 3);
+    for (edge, preparation) in [2, 1, 0, 1].into_iter().enumerate() {
+        shell.prepare(edge, preparation);
+    }
+    let (tables, wires) = shell.lend();
+    let counts = Counts {
+        vertices: 5,
+        edges: 7,
+        uses: 8,
+    };
+    assert_eq!(split_closed_edges(tables, wires), Ok(counts));
+    let Shell { tables, wires } = shell;
+    // Edges 0, 2 and 3 are cut, and their second halves are 4, 5 and 6.
+    let edges = [
+        [0, 2, 0, 7, 2],
+        [0, 1, 0, 7, 1],
+        [1, 3, 0, 7, 0],
+        [1, 4, 0, 7, 1],
+        [2, 0, 0, 7, 2],
+        [3, 1, 0, 7, 0],
+        [4, 1, 0, 7, 1],
+    ];
+    assert_eq!(tables.edge_numbers, edges.concat());
+    // The row of a pending vertex has no preparation.
+    assert_eq!(tables.vertex_numbers[6..], [[1, 0, 7]; 3].concat());
+    assert_eq!(wires.uses, wire("0+ 4+ 1+ 5- 2- 6- 3- 1-"));
+}
+
+#[test]
+fn one_cut_gives_both_pieces_the_preparation_of_the_edge() {
+    for preparation in [0, 1, 2] {
+        let mut shell = Shell::pipe(&["1+ 0+ 1-"], 2);
+        shell.prepare(0, 1);
+        shell.prepare(1, preparation);
+        shell.prepare(2, 2);
+        let mut cut = |count| {
+            let floats = &[2.0, 1.0, 0.0, 3.0];
+            let (tables, wires) = shell.lend();
+            cut_edge_by_intersections(tables, wires, Cuts { floats, count }, 1)
+        };
+        let counts = [cut(0), cut(1)].map(|counts| counts.unwrap().edges);
+        assert_eq!(counts, [5, 6]);
+        let edges = [
+            [0, 2, 0, 7, 1],
+            [0, 4, 0, 7, preparation],
+            [1, 0, 0, 7, 2],
+            [2, 3, 0, 7, 0],
+            [3, 2, 0, 7, 0],
+            [4, 1, 0, 7, preparation],
+        ];
+        assert_eq!(shell.tables.edge_numbers[..30], edges.concat());
+        assert_eq!(shell.tables.edge_numbers[30..], [MARK; 5]);
+    }
+}
+
+#[test]
+fn no_cut_keeps_the_preparations() {
+    let mut shell = bevelled_pipe(&[PIPE_WIRE], 1);
+    let before = shell.cells();
+    let (tables, wires) = shell.lend();
+    let cuts = Cuts {
+        floats: &[],
+        count: 0,
+    };
+    let counts = Counts {
+        vertices: 4,
+        edges: 5,
+        uses: 6,
+    };
+    let kept = cut_edge_by_intersections(tables, wires, cuts, 2);
+    assert_eq!((kept, shell.cells()), (Ok(counts), before));
+}
+
+#[test]
+fn seams_are_square_beside_edges_that_are_not() {
+    let pipe = [
+        [0, 2, 0, 7, 0],
+        [0, 1, 0, 7, 1],
+        [1, 0, 0, 7, 2],
+        [2, 3, 0, 7, 1],
+        [3, 2, 0, 7, 2],
+    ];
+    let mut split = Split::new(bevelled_pipe(&[PIPE_WIRE], 1), &[3, 1]);
+    assert_eq!(split.ask().map(|rebuilt| rebuilt.edges), Ok(6));
+    let edges = [&pipe[..], &[[3, 1, 1, 3, 0]]].concat();
+    assert_eq!(split.shell.tables.edge_numbers, edges.concat());
+    let mut split = Split::new(bevelled_pipe(&[], 2), &[0, 1, 2, 3]);
+    assert_eq!(split.ask().map(|rebuilt| rebuilt.edges), Ok(7));
+    let edges = [&pipe[..], &[[0, 1, 1, 3, 0], [2, 3, 1, 3, 0]]].concat();
+    assert_eq!(split.shell.tables.edge_numbers, edges.concat());
+}
+
+#[test]
+fn answers_of_the_other_calls_are_blind_to_preparations() {
+    let shell = bevelled_pipe(&[PIPE_WIRE], 0);
+    let tables = shell.tables.lend();
+    let search = find_non_simple_wire_divisor(tables, shell.wires.lend());
+    assert_eq!(search, Ok(Some([3, 1])));
+    let [first, second] = ["1+ 2+", "3+ 4+"].map(wire);
+    let open: [Stretch<'_>; 2] = [first[..].into(), second[..].into()];
+    let nearest = nearest_correction(tables, open[1], open[0], 3);
+    assert_eq!(nearest, Ok(Some([3, 1])));
+    let mut shell = bevelled_pipe(&["0+ 0-"], 4);
+    let (edges, wires) = shell.lend_wires();
+    let joined = connect_open_boundaries(edges, open, wires, [0, 2]);
+    assert_eq!(joined, Ok(Some(6)));
+    assert_eq!(shell.wires.uses, wire("0- 1+ 2+ 0+ 3+ 4+"));
 }

@@ -2,15 +2,20 @@
 // included, is document 01's, else `other`.
 #![tactic(auto)]
 
-use compress::{Refusal, Uv};
+use compress::{NUMBERS_PER_EDGE, Refusal, Uv};
 use rows::lent::{Stretch, Wires, WiresMut};
 use rows::tables::{Table, TableMut};
 use split::seams::Divisor;
 use std::io;
 use wire_kinds::BoundaryType;
 
-// The edges of K9: 0 = (0, 2), 1 = (0, 1), 2 = (1, 0), 3 = (2, 3), 4 = (3, 2).
-const K9: [u32; 20] = [0, 2, 0, 0, 0, 1, 0, 0, 1, 0, 0, 0, 2, 3, 0, 0, 3, 2, 0, 0];
+// The edges of K9: 0 = (0, 2), 1 = (0, 1), 2 = (1, 0), 3 = (2, 3), 4 = (3, 2), spans of curve 0, all square.
+const K9: [u32; 25] = [
+    0, 2, 0, 0, 0, 0, 1, 0, 0, 0, 1, 0, 0, 0, 0, 2, 3, 0, 0, 0, 3, 2, 0, 0, 0,
+];
+
+// A row for each: the size of the array is a number of its own, as a type's argument is not worked out.
+const _: () = prove!(25 == 5 * NUMBERS_PER_EDGE);
 
 // "K14: list of one vertex: 9." K9's edges and wire, as the face and to be rebuilt; every buffer holds 99 and is left.
 fn is_k14_same() -> bool {

@@ -79,9 +79,13 @@ pending_numbers n = 1 ∷ 0 ∷ n ∷ []
 abbrev pub pending_floats : Float → Float → Float → List Float
 pending_floats t0 t1 t = nan ∷ nan ∷ nan ∷ nan ∷ t0 ∷ t1 ∷ t ∷ []
 
--- an edge with a span: its two vertices, the kind of the span and its number; the ends of the span
+-- an edge with a span: its two vertices, the kind of the span, its number, and the preparation; the ends of the span
+abbrev pub prepared_numbers : ℕ → ℕ → ℕ → ℕ → List ℕ
+prepared_numbers front back n p = front ∷ back ∷ 0 ∷ n ∷ p ∷ []
+
+-- document 02, A.5: "A new seam edge is square, and so are the edges in 01's K cases."
 abbrev pub span_numbers : ℕ → ℕ → ℕ → List ℕ
-span_numbers front back n = front ∷ back ∷ 0 ∷ n ∷ []
+span_numbers front back n = prepared_numbers front back n 0
 
 abbrev pub span_floats : Float → Float → List Float
 span_floats t0 t1 = nan ∷ nan ∷ nan ∷ nan ∷ t0 ∷ t1 ∷ []
@@ -117,28 +121,38 @@ all_hold (c ∷ cs) = holds c × all_hold cs
 
 -- one given vertex, edge 0 = (0, 0) with span 7 from 0 to 8, and one wire; places for two vertices and two edges more, and for twice the uses and two more.
 -- A use: forward 2 * edge, reversed 2 * edge + 1
-abbrev pub rim_with : List ℕ → Lent
-rim_with wire =
+abbrev pub rim_prepared : ℕ → List ℕ → Lent
+rim_prepared p wire =
     lent_of
     (given_numbers ++ idle (2 * numbers_per_vertex)) (given_floats zero64 zero64 zero64 ++ idle_floats (2 * floats_per_vertex))
-    (span_numbers 0 0 7 ++ idle (2 * numbers_per_edge)) (span_floats zero64 eight64 ++ idle_floats (2 * floats_per_edge))
+    (prepared_numbers 0 0 7 p ++ idle (2 * numbers_per_edge)) (span_floats zero64 eight64 ++ idle_floats (2 * floats_per_edge))
     (wire ++ idle (length wire + 2)) (length wire ∷ idle 1)
     1 1 1
 
--- edge 0 = (0, 1) from 0 to 4, edge 1 = (1, 0) from 4 to 8, vertex 1 pending on span 7 (0 to 8) at 4, and the wire that is left
-abbrev pub rim_cut_with : List ℕ → Outcome
-rim_cut_with wire =
+abbrev pub rim_with : List ℕ → Lent
+rim_with wire = rim_prepared 0 wire
+
+-- edge 0 = (0, 1) from 0 to 4, edge 1 = (1, 0) from 4 to 8, vertex 1 with these cells, and the wire that is left
+abbrev pub rim_left : ℕ → List ℕ → List Float → List ℕ → Outcome
+rim_left p numbers floats wire =
     record {
       said = result (record { vertices = 2; edges = 2; uses = length wire });
       slices = record {
-        vn = given_numbers ++ pending_numbers 7 ++ idle numbers_per_vertex;
-        vf = given_floats zero64 zero64 zero64 ++ pending_floats zero64 eight64 four64 ++ idle_floats floats_per_vertex;
-        en = span_numbers 0 1 7 ++ span_numbers 1 0 7 ++ idle numbers_per_edge;
+        vn = given_numbers ++ numbers ++ idle numbers_per_vertex;
+        vf = given_floats zero64 zero64 zero64 ++ floats ++ idle_floats floats_per_vertex;
+        en = prepared_numbers 0 1 7 p ++ prepared_numbers 1 0 7 p ++ idle numbers_per_edge;
         ef = span_floats zero64 four64 ++ span_floats four64 eight64 ++ idle_floats floats_per_edge;
         us = wire ++ idle 2;
         ls = length wire ∷ idle 1;
       };
     }
+
+-- vertex 1 is pending on span 7 (0 to 8) at 4
+abbrev pub rim_cut_prepared : ℕ → List ℕ → Outcome
+rim_cut_prepared p wire = rim_left p (pending_numbers 7) (pending_floats zero64 eight64 four64) wire
+
+abbrev pub rim_cut_with : List ℕ → Outcome
+rim_cut_with wire = rim_cut_prepared 0 wire
 
 -- "K1: one vertex, edge 0 = (0, 0) with span 7 from 0 to 8, wire 0+. Result: .. wire 0+ 1+."
 abbrev pub k1 : Case
@@ -236,7 +250,7 @@ k10_lent = split_of 4 5 pipe_numbers pipe_floats k9_wire (3 ∷ 1 ∷ []) (zero6
 abbrev pub k10_left : Buffers
 k10_left =
     record {
-      en = pipe_numbers ++ (3 ∷ 1 ∷ 1 ∷ 7 ∷ []) ++ idle numbers_per_edge;
+      en = pipe_numbers ++ (3 ∷ 1 ∷ 1 ∷ 7 ∷ 0 ∷ []) ++ idle numbers_per_edge;
       ef = pipe_floats ++ (zero64 ∷ one64 ∷ two64 ∷ four64 ∷ zero64 ∷ one64 ∷ []) ++ idle_floats floats_per_edge;
       us = (0 ∷ 6 ∷ 10 ∷ 4 ∷ []) ++ (2 ∷ 11 ∷ 8 ∷ 1 ∷ []) ++ idle 2;
       ls = 4 ∷ 4 ∷ idle 8;

@@ -11,9 +11,9 @@ use lib.ListN.{length, get_or, take}
 use lib.Ieee.{Float}
 use Rattle.compress.specs.declared.Edge.{Edge}
 use Rattle.compress.specs.Records.{pick}
-use Rattle.compress.specs.Rows.{numbers_per_edge, floats_per_edge, numbers_per_vertex, floats_per_vertex, edge_kind_at, vertex_kind_at, curve_kind_at, edge_at, vertex_at}
+use Rattle.compress.specs.Rows.{numbers_per_edge, floats_per_edge, numbers_per_vertex, floats_per_vertex, edge_kind_at, preparation_at, KnownEdge, vertex_kind_at, curve_kind_at, edge_at, vertex_at}
 use Rattle.compress.specs.Wires.{total}
-use Rattle.checks.specs.Causes.{when, kind_cause, curve_kind_cause, edge_cause, vertex_cause, edge_number_cause, edge_row_cause, vertex_row_cause, edges_cause, vertices_cause, uses_cause, wires_cause}
+use Rattle.checks.specs.Causes.{when, kind_cause, preparation_cause, curve_kind_cause, edge_cause, vertex_cause, edge_number_cause, edge_row_cause, vertex_row_cause, edges_cause, vertices_cause, uses_cause, wires_cause}
 use Rattle.checks.proofs.Lowest.{lower_none, lowest_none}
 
 -- a test with a cause of its own did not hold, and what follows it has none
@@ -35,12 +35,15 @@ and_known false b e q = absurd (false≢true q)
 kind_known : (k : ℕ) → kind_cause k ≡ 0 → k < 2
 kind_known k e = let h = ltb-false 1 k (not_when (ltb 1 k) 0 e) in omega arith
 
+preparation_known : (n : ℕ) → preparation_cause n ≡ 0 → n < 3
+preparation_known n e = let h = ltb-false 2 n (not_when (ltb 2 n) 0 e) in omega arith
+
 -- a table of n edges between v vertices
 pub record EdgesAccepted (v : ℕ) (ns : List ℕ) (fs : List Float) (n : ℕ) : Type 0 where
   pub below : n ≤ 4096
   pub numbers : n * numbers_per_edge ≤ length ns
   pub floats : n * 6 ≤ length fs
-  pub kinds : (i : ℕ) → i < n → edge_kind_at ns i < 2
+  pub known : (i : ℕ) → i < n → KnownEdge ns i
   pub rows : (i : ℕ) → i < n → edge_cause v (edge_at ns fs i) ≡ 0
 
 pub edges_accepted : (v : ℕ) (ns : List ℕ) (fs : List Float) (n : ℕ) → edges_cause v ns fs n ≡ 0 → EdgesAccepted v ns fs n
@@ -49,14 +52,17 @@ edges_accepted v ns fs n e =
     let a = passed (ltb 4096 n) _ e in
     let b = passed (ltb (length ns) (n * numbers_per_edge)) _ a.1 in
     let c = passed (ltb (length fs) (n * floats_per_edge)) _ b.1 in
-    let row : (i : ℕ) → i < n → (kind_cause (edge_kind_at ns i) ≡ 0) × (edge_cause v (edge_at ns fs i) ≡ 0)
-    = λ i h. lower_none (kind_cause (edge_kind_at ns i)) (edge_cause v (edge_at ns fs i)) (lowest_none (edge_row_cause v ns fs) n i c.1 h) in
+    let row : (i : ℕ) → i < n → (kind_cause (edge_kind_at ns i) ≡ 0) × (preparation_cause (preparation_at ns i) ≡ 0) × (edge_cause v (edge_at ns fs i) ≡ 0)
+    = λ i h.
+    let r = lower_none (kind_cause (edge_kind_at ns i)) _ (lowest_none (edge_row_cause v ns fs) n i c.1 h) in
+    let s = lower_none (preparation_cause (preparation_at ns i)) (edge_cause v (edge_at ns fs i)) r.1 in
+    (r.0, s.0, s.1) in
     record {
       below = ltb-false 4096 n a.0;
       numbers = ltb-false (length ns) (n * numbers_per_edge) b.0;
       floats = ltb-false (length fs) (n * floats_per_edge) c.0;
-      kinds = λ i h. kind_known (edge_kind_at ns i) (row i h).0;
-      rows = λ i h. (row i h).1;
+      known = λ i h. (kind_known (edge_kind_at ns i) (row i h).0, preparation_known (preparation_at ns i) (row i h).1);
+      rows = λ i h. (row i h).2;
     }
 
 -- a table of n vertices

@@ -20,9 +20,9 @@ use Rattle.compress.specs.declared.Refusal.{Refusal}
 use Rattle.compress.specs.declared.Refusal.TheVariants.{Malformed, VertexNumber, EdgeNumber, NotSized, OutOfRange, PendingVertex}
 use Rattle.compress.specs.Records.{pick, first_of, last_of}
 use Rattle.compress.specs.Refusals.{refusal_number, IsCause}
-use Rattle.compress.specs.Rows.{edge_kind_at, vertex_kind_at, curve_kind_at, edge_at, vertex_at}
+use Rattle.compress.specs.Rows.{edge_kind_at, preparation_at, vertex_kind_at, curve_kind_at, edge_at, vertex_at}
 use Rattle.compress.specs.Wires.{total}
-use Rattle.checks.specs.Causes.{when, lower_of, lowest_of, kind_cause, vertex_number_cause, edge_number_cause, float_cause, range_cause, parameter_cause, period_cause, uv_cause, curve_cause, edge_cause, point_cause, vertex_cause, edge_row_cause, curve_kind_cause, vertex_row_cause, table_cause, edges_cause, vertices_cause, pending_row_cause, pending_cause, uses_cause, wires_cause}
+use Rattle.checks.specs.Causes.{when, lower_of, lowest_of, kind_cause, preparation_cause, vertex_number_cause, edge_number_cause, float_cause, range_cause, parameter_cause, period_cause, uv_cause, curve_cause, edge_cause, point_cause, vertex_cause, edge_row_cause, curve_kind_cause, vertex_row_cause, table_cause, edges_cause, vertices_cause, pending_row_cause, pending_cause, uses_cause, wires_cause}
 use Rattle.checks.proofs.Lowest.{Lower, none, first, second, lower_is}
 
 -- ---- by how a cause is put together
@@ -108,7 +108,9 @@ pub edges_told : (v : ℕ) (ns : List ℕ) (fs : List Float) (n : ℕ) → IsCau
 unfolding edges_cause edge_row_cause
 edges_told v ns fs n =
     table_told _ _ (edge_row_cause v ns fs) ns fs n
-    (λ i. lower_told (kind_cause (edge_kind_at ns i)) _ (when_is (ltb 1 (edge_kind_at ns i)) Malformed) (edge_told v (edge_at ns fs i)))
+    (λ i.
+    lower_told (kind_cause (edge_kind_at ns i)) _ (when_is (ltb 1 (edge_kind_at ns i)) Malformed)
+    (lower_told (preparation_cause (preparation_at ns i)) _ (when_is (ltb 2 (preparation_at ns i)) Malformed) (edge_told v (edge_at ns fs i))))
 
 pub vertices_told : (ns : List ℕ) (fs : List Float) (n : ℕ) → IsCause (vertices_cause ns fs n)
 unfolding vertices_cause vertex_row_cause

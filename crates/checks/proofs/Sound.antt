@@ -19,10 +19,11 @@ use Rattle.floats.proofs.Rounds.{neg_held, held_between}
 use Rattle.floats.proofs.Mono.{le_trans_held, nlt→le}
 use Rattle.floats.proofs.Sized.{big_held, sized_held}
 use Rattle.compress.specs.declared.Uv.{Uv}
+use Rattle.compress.specs.declared.Curve.{Curve}
 use Rattle.compress.specs.declared.Curve.TheVariants.{Span, Seam}
 use Rattle.compress.specs.declared.Vertex.TheVariants.{Pending}
 use Rattle.compress.specs.Records.{pick, first_of, last_of}
-use Rattle.compress.specs.Rows.{numbers_per_edge, floats_per_edge, numbers_per_vertex, floats_per_vertex, edge_kind_at, vertex_kind_at, curve_kind_at, curve_of, curve_at, edge_of, vertex_of}
+use Rattle.compress.specs.Rows.{numbers_per_edge, floats_per_edge, numbers_per_vertex, floats_per_vertex, edge_kind_at, preparation_at, vertex_kind_at, curve_kind_at, curve_of, curve_at, edge_of, vertex_of}
 use Rattle.compress.specs.Shell.{rows_fit}
 use Rattle.checks.specs.Causes.{table_cause, when, lower_of, lowest_of, float_cause, range_cause, parameter_cause, uv_cause, point_cause, curve_cause, edge_cause, vertex_cause, edge_row_cause, vertex_row_cause, pending_row_cause}
 use Rattle.checks.proofs.Lowest.{lower_first, lower_none}
@@ -185,13 +186,10 @@ pub seam_sound : (k n : ℕ) (p q : Uv) (a b : Float) → k ≡ 1 → uv_cause p
 unfolding curve_of curve_cause
 seam_sound k n p q a b e f g r = rw e (lower_zero (uv_cause p) _ f (lower_zero (uv_cause q) _ g r))
 
-curve_range : (k n : ℕ) (p q : Uv) (a b : Float) → curve_cause (curve_of k n p q a b) ≡ 0 → range_cause a b ≡ 0
-unfolding curve_of curve_cause
-curve_range k n p q a b e = by (eqb k 0) e
-  where
-    by : (z : Bool) → curve_cause (pick z (Span n a b) (Seam n p q a b)) ≡ 0 → range_cause a b ≡ 0
-    by true h = h
-    by false h = (lower_none (uv_cause q) _ (lower_none (uv_cause p) _ h).1).1
+pub curve_range : (c : Curve) → curve_cause c ≡ 0 → range_cause (first_of c) (last_of c) ≡ 0
+unfolding curve_cause
+curve_range (Span n a b) e = e
+curve_range (Seam n p q a b) e = (lower_none (uv_cause q) _ (lower_none (uv_cause p) _ e).1).1
 
 curve_ends : (k n : ℕ) (p q : Uv) (a b : Float) → (first_of (curve_of k n p q a b) ≡ a) × (last_of (curve_of k n p q a b) ≡ b)
 unfolding curve_of
@@ -203,13 +201,15 @@ curve_ends k n p q a b = by (eqb k 0)
 
 -- ---- rows
 pub edge_sound : (v : ℕ) (ns : List ℕ) (fs : List Float) (i : ℕ) → get_or ns (i * numbers_per_edge) 0 < v → get_or ns (i * numbers_per_edge + 1) 0 < v
+    → preparation_at ns i ≤ 2
     → (edge_kind_at ns i ≤ 1) × ((n : ℕ) → curve_cause (curve_at (edge_kind_at ns i) n fs (i * floats_per_edge)) ≡ 0)
     → edge_row_cause v ns fs i ≡ 0
 unfolding edge_row_cause edge_cause edge_of
-edge_sound v ns fs i f b c =
+edge_sound v ns fs i f b p c =
     lower_zero (when (ltb 1 (edge_kind_at ns i)) 1) _ (rw (le-ltb 1 (edge_kind_at ns i) c.0))
+    (lower_zero (when (ltb 2 (preparation_at ns i)) 1) _ (rw (le-ltb 2 (preparation_at ns i) p))
     (lower_zero (when (leb v (get_or ns (i * numbers_per_edge) 0)) 2) _ (rw (lt-leb v (get_or ns (i * numbers_per_edge) 0) f))
-    (lower_zero (when (leb v (get_or ns (i * numbers_per_edge + 1) 0)) 2) _ (rw (lt-leb v (get_or ns (i * numbers_per_edge + 1) 0) b)) (c.1 (get_or ns (i * numbers_per_edge + 3) 0))))
+    (lower_zero (when (leb v (get_or ns (i * numbers_per_edge + 1) 0)) 2) _ (rw (lt-leb v (get_or ns (i * numbers_per_edge + 1) 0) b)) (c.1 (get_or ns (i * numbers_per_edge + 3) 0)))))
 
 pub given_sound : (ns : List ℕ) (fs : List Float) (i : ℕ) → vertex_kind_at ns i ≡ 0
     → point_cause (get_or fs (i * floats_per_vertex) nan) (get_or fs (i * floats_per_vertex + 1) nan) (get_or fs (i * floats_per_vertex + 2) nan) ≡ 0 → vertex_row_cause ns fs i ≡ 0
@@ -228,7 +228,7 @@ vertex_sound k n fs b t c p =
     let u : Uv = record { u = get_or fs b nan; v = get_or fs (b + 1) nan } in
     let v : Uv = record { u = get_or fs (b + 2) nan; v = get_or fs (b + 3) nan } in
     let ends = curve_ends k n u v (get_or fs (b + 4) nan) (get_or fs (b + 5) nan) in
-    lower_zero _ _ c (rw (ends.0, ends.1) (p (curve_range k n u v (get_or fs (b + 4) nan) (get_or fs (b + 5) nan) c)))
+    lower_zero _ _ c (rw (ends.0, ends.1) (p (rw (ends.0, ends.1) at (curve_range (curve_at k n fs b) c))))
 
 pub pending_sound : (ns : List ℕ) (fs : List Float) (i : ℕ) → vertex_kind_at ns i ≡ 1
     → (curve_kind_at ns i ≤ 1)

@@ -1,4 +1,5 @@
--- Document 01's causes 1 to 5, of lone numbers, of records, of tables and of wires. A cause is its number, and 0 is none.
+-- Document 01's causes 1 to 5, of lone numbers, of records, of tables and of wires, with document 02's of a preparation. A cause is its number, and
+-- 0 is none.
 -- "Every input is checked, used or not. The lowest number wins." Definitions only.
 use Rattle.std.specs.Prelude.{Bool, true, false, not, ◌&&◌, List, ℕ, zero, suc, ◌*◌, ◌/◌, min, eqb, leb, ltb, length, get_or, take, Float}
 use Rattle.std.specs.Float.Ieee.{lt}
@@ -11,7 +12,7 @@ use Rattle.compress.specs.declared.Edge.{Edge}
 use Rattle.compress.specs.declared.Vertex.{Vertex}
 use Rattle.compress.specs.declared.Vertex.TheVariants.{Given, Pending}
 use Rattle.compress.specs.Records.{pick, first_of, last_of}
-use Rattle.compress.specs.Rows.{numbers_per_edge, floats_per_edge, numbers_per_vertex, floats_per_vertex, edge_kind_at, vertex_kind_at, curve_kind_at, edge_at, vertex_at}
+use Rattle.compress.specs.Rows.{numbers_per_edge, floats_per_edge, numbers_per_vertex, floats_per_vertex, edge_kind_at, preparation_at, vertex_kind_at, curve_kind_at, edge_at, vertex_at}
 use Rattle.compress.specs.Wires.{total}
 
 -- the cause n where the test holds
@@ -37,6 +38,10 @@ count_cause most n = when (ltb most n) 1
 -- 1: "a kind field holds no known kind"
 abbrev pub kind_cause : ℕ → ℕ
 kind_cause k = when (ltb 1 k) 1
+
+-- 1, document 02, A.5: "as a number 0, 1 or 2; any other earns 1"
+abbrev pub preparation_cause : ℕ → ℕ
+preparation_cause n = when (ltb 2 n) 1
 
 -- 2: "Vertex number not below the vertex count"
 abbrev pub vertex_number_cause : ℕ → ℕ → ℕ
@@ -82,10 +87,12 @@ unfoldable pub vertex_cause : Vertex → ℕ
 vertex_cause (Given x y z) = point_cause x y z
 vertex_cause (Pending c t) = lower_of (curve_cause c) (parameter_cause (first_of c) (last_of c) t)
 
--- ---- rows: the kinds, and the record
+-- ---- rows: the kinds, the preparation, and the record
 
 unfoldable pub edge_row_cause : ℕ → List ℕ → List Float → ℕ → ℕ
-edge_row_cause vertices ns fs i = lower_of (kind_cause (edge_kind_at ns i)) (edge_cause vertices (edge_at ns fs i))
+edge_row_cause vertices ns fs i =
+    lower_of (kind_cause (edge_kind_at ns i))
+    (lower_of (preparation_cause (preparation_at ns i)) (edge_cause vertices (edge_at ns fs i)))
 
 -- only a pending vertex has a curve kind
 abbrev pub curve_kind_cause : ℕ → ℕ → ℕ

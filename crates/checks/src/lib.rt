@@ -8,7 +8,7 @@ pub mod tables;
 ghost use Rattle.std.specs.Prelude.{◌≡◌, true, ℕ, ◌+◌, ◌/◌, ◌≤◌, ◌<◌, length, take, ltb};
 ghost use Rattle.compress.specs.Records.{pick};
 ghost use Rattle.compress.specs.Refusals.{refusal_number, cause_of};
-ghost use Rattle.checks.specs.Causes.{when, lower_of, lowest_of, count_cause, kind_cause, vertex_number_cause, edge_number_cause, float_cause, range_cause, parameter_cause, period_cause, uv_cause, curve_cause, edge_cause, point_cause, vertex_cause, uses_cause, wires_cause};
+ghost use Rattle.checks.specs.Causes.{when, lower_of, lowest_of, count_cause, kind_cause, preparation_cause, vertex_number_cause, edge_number_cause, float_cause, range_cause, parameter_cause, period_cause, uv_cause, curve_cause, edge_cause, point_cause, vertex_cause, uses_cause, wires_cause};
 
 use compress::{Checked, Curve, Edge, Refusal, Uv, Vertex, Xyz};
 use rows::lent::Wires;
@@ -56,6 +56,13 @@ pub fn kind(k: u32) -> Checked
     ensures { cause_of result ≡ kind_cause k }
 {
     cause_when(k > 1, Refusal::Malformed)
+}
+
+// So is a preparation.
+pub fn preparation(n: u32) -> Checked
+    ensures { cause_of result ≡ preparation_cause n }
+{
+    cause_when(n > 2, Refusal::Malformed)
 }
 
 // A function for each of the two numbers: with the refusal as an argument every call would name it.

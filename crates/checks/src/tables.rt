@@ -9,8 +9,8 @@ ghost use Rattle.compress.specs.declared.Vertex.TheVariants.{Pending};
 ghost use Rattle.checks.specs.Causes.{table_cause, range_cause, parameter_cause, uv_cause, curve_cause, vertex_cause, point_cause, curve_kind_cause, edge_row_cause, vertex_row_cause, edges_cause, vertices_cause};
 
 use compress::{
-    CURVE_KIND, Checked, EDGE_KIND, Edge, FLOATS_PER_EDGE, FLOATS_PER_VERTEX, NUMBERS_PER_EDGE,
-    NUMBERS_PER_VERTEX, PARAMETER, Refusal, T0, T1, Uv, Vertex, Xyz,
+    CURVE_KIND, Checked, EDGE_KIND, EDGE_PREPARATION, Edge, FLOATS_PER_EDGE, FLOATS_PER_VERTEX,
+    NUMBERS_PER_EDGE, NUMBERS_PER_VERTEX, PARAMETER, Refusal, T0, T1, Uv, Vertex, Xyz,
 };
 use rows::tables::{Row, Table};
 
@@ -20,8 +20,10 @@ fn edge_row(vertices: usize, edges: &Table<Edge>, i: usize) -> Checked
     requires { HasEdge edges.now.numbers.now edges.now.floats.now i }
     ensures { cause_of result ≡ edge_row_cause vertices edges.now.numbers.now edges.now.floats.now i }
 {
-    let k = crate::kind(edges.numbers[i * NUMBERS_PER_EDGE + EDGE_KIND]);
-    crate::lower(k, crate::edge(vertices, edges.at(i)))
+    let a = i * NUMBERS_PER_EDGE;
+    let k = crate::kind(edges.numbers[a + EDGE_KIND]);
+    let p = crate::preparation(edges.numbers[a + EDGE_PREPARATION]);
+    crate::lower(k, crate::lower(p, crate::edge(vertices, edges.at(i))))
 }
 
 // Kinds are judged as the numbers that are lent: the C interface.
@@ -106,6 +108,9 @@ fn is_edge_sound(bound: u32, edges: &Table<Edge>, i: usize) -> bool
         return false;
     }
     if numbers[a + 1] >= bound {
+        return false;
+    }
+    if numbers[a + EDGE_PREPARATION] > 2 {
         return false;
     }
     is_curve_sound(numbers[a + EDGE_KIND], edges.floats, i * FLOATS_PER_EDGE)

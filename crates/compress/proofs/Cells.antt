@@ -84,14 +84,19 @@ module _ {A : Type 0} (l : List A) (a : ℕ) where
       let q : a + 3 ≡ suc (suc (suc a)) = omega arith in
       rw (run3 x y z, p, q)
 
+  pub run5 : (x y z w s : A) → set (set (set (set (set l a x) (a + 1) y) (a + 2) z) (a + 3) w) (a + 4) s ≡ sets l (a + 0) (x ∷ y ∷ z ∷ w ∷ s ∷ [])
+  run5 x y z w s =
+      let p : a + 0 ≡ a = omega arith in
+      let q : a + 4 ≡ suc (suc (suc (suc a))) = omega arith in
+      rw (run4 x y z w, p, q)
+
   pub run6 : (x y z w s t : A)
       → set (set (set (set (set (set l a x) (a + 1) y) (a + 2) z) (a + 3) w) (a + 4) s) (a + 5) t
       ≡ sets l (a + 0) (x ∷ y ∷ z ∷ w ∷ s ∷ t ∷ [])
   run6 x y z w s t =
       let o : a + 0 ≡ a = omega arith in
-      let p : a + 4 ≡ suc (suc (suc (suc a))) = omega arith in
-      let q : a + 5 ≡ suc (suc (suc (suc (suc a)))) = omega arith in
-      rw (run4 x y z w, o, p, q)
+      let p : a + 5 ≡ suc (suc (suc (suc (suc a)))) = omega arith in
+      rw (run5 x y z w s, o, p)
 
   -- the last two of six
   pub run2 : (x y : A) → set (set l (a + 4) x) (a + 5) y ≡ sets l (a + 4) (x ∷ y ∷ [])

@@ -10,13 +10,14 @@ use lib.Ieee.{Float}
 use Rattle.std.proofs.lemmas.Bool.{and_parts}
 use Rattle.compress.specs.declared.Edge.{Edge}
 use Rattle.compress.specs.declared.Vertex.{Vertex}
+use Rattle.compress.specs.Records.{preparation_number}
 use Rattle.compress.specs.Layout.{store_from, rows}
-use Rattle.compress.specs.Rows.{numbers_per_edge, floats_per_edge, numbers_per_vertex, floats_per_vertex, edge_at, vertex_at, edge_number_layout, edge_float_layout, vertex_number_layout, vertex_float_layout}
+use Rattle.compress.specs.Rows.{edge_preparation, numbers_per_edge, floats_per_edge, numbers_per_vertex, floats_per_vertex, preparation_at, KnownEdge, edge_of, edge_at, vertex_at, edge_number_layout, edge_float_layout, vertex_number_layout, vertex_float_layout}
 use Rattle.compress.specs.Shell.{Shell, Slices, Lent, load, store_shell, stored_lent, counts_of, has_room, vertices_fit, edges_fit}
 use Rattle.compress.proofs.Layouts.{row_at}
-use Rattle.compress.proofs.Reading.{Reader, store_read}
+use Rattle.compress.proofs.Reading.{Reader, cell_read, store_read}
 use Rattle.compress.proofs.Room.{vertices_room, edges_room}
-use Rattle.compress.proofs.Rows.{edge_same, edge_other, vertex_same, vertex_other}
+use Rattle.compress.proofs.Rows.{edge_numbers_fit, preparation_kept, edge_same, edge_other, vertex_same, vertex_other}
 use Rattle.compress.proofs.Wires.{wires_stored}
 
 unfoldable edge_reader : Reader ℕ Float Edge
@@ -52,6 +53,18 @@ pub vertices_read : (vs : List Vertex) (ns : List ℕ) (fs : List Float) (i : �
     → rows (vertex_at (store_from vertex_number_layout ns i vs) (store_from vertex_float_layout fs i vs)) i (length vs) ≡ vs
 unfolding vertex_reader vertex_number_layout vertex_float_layout
 vertices_read vs ns fs i hn hf = store_read vertex_reader vs ns fs i hn hf
+
+-- the preparation in a row that was stored is that of the record
+pub preparation_stored : (d : Edge) (es : List Edge) (ns : List ℕ) (j : ℕ) → j < length es → length es * numbers_per_edge ≤ length ns
+    → preparation_at (store_from edge_number_layout ns 0 es) j ≡ preparation_number (get_or es j d).preparation
+unfolding edge_number_layout
+preparation_stored d es ns j lt h =
+    cell_read edge_number_layout edge_numbers_fit 0 d es ns 0 j edge_preparation (j * numbers_per_edge + edge_preparation) lt (omega arith) (omega arith) (omega arith)
+
+-- and so it is in a row that is read, where it is a known one
+pub preparation_read : (ns : List ℕ) (fs : List Float) (i : ℕ) → KnownEdge ns i → preparation_number (edge_at ns fs i).preparation ≡ preparation_at ns i
+unfolding edge_of
+preparation_read ns fs i h = preparation_kept (preparation_at ns i) h.1
 
 -- the edge in a row is that of the shell
 pub edge_loaded : (l : Lent) (d : Edge) (i : ℕ) → i < l.edges → edge_at l.slices.en l.slices.ef i ≡ get_or (load l).edges i d

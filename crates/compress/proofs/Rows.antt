@@ -13,12 +13,14 @@ use lib.Ieee.{Float, nan}
 use Rattle.compress.specs.declared.Uv.{Uv}
 use Rattle.compress.specs.declared.Curve.{Curve}
 use Rattle.compress.specs.declared.Curve.TheVariants.{Span, Seam}
+use Rattle.compress.specs.declared.Preparation.{Preparation}
+use Rattle.compress.specs.declared.Preparation.TheVariants.{Square, SingleBevel, DoubleBevel}
 use Rattle.compress.specs.declared.Edge.{Edge}
 use Rattle.compress.specs.declared.Vertex.{Vertex}
 use Rattle.compress.specs.declared.Vertex.TheVariants.{Given, Pending}
-use Rattle.compress.specs.Records.{pick, kind_of, number_of}
+use Rattle.compress.specs.Records.{pick, kind_of, number_of, preparation_number}
 use Rattle.compress.specs.Layout.{put}
-use Rattle.compress.specs.Rows.{edge_curve, vertex_curve, curve_kind_at, vertex_kind_at, edge_kind_at, numbers_per_edge, floats_per_edge, numbers_per_vertex, floats_per_vertex, curve_of, edge_of, edge_at, vertex_of, vertex_at, curve_first, curve_cells, vertex_first, vertex_cells, edge_number_layout, edge_float_layout, vertex_number_layout, vertex_float_layout}
+use Rattle.compress.specs.Rows.{edge_curve, vertex_curve, curve_kind_at, vertex_kind_at, edge_kind_at, preparation_of, preparation_at, KnownEdge, numbers_per_edge, floats_per_edge, numbers_per_vertex, floats_per_vertex, curve_of, edge_of, edge_at, vertex_of, vertex_at, curve_first, curve_cells, vertex_first, vertex_cells, edge_number_layout, edge_float_layout, vertex_number_layout, vertex_float_layout}
 use Rattle.compress.proofs.Cells.{sets_append, sets_same, cells_at}
 use Rattle.compress.proofs.Layouts.{Fits, put_at, put_other}
 
@@ -77,6 +79,12 @@ module _ (ns : List ℕ) (fs : List Float) (i : ℕ) where
         at 5 (w + 5) (omega arith) (omega arith),
       )
 
+  -- a preparation is read as what was written
+  preparation_same : (p : Preparation) → preparation_of (preparation_number p) ≡ p
+  preparation_same Square = refl
+  preparation_same SingleBevel = refl
+  preparation_same DoubleBevel = refl
+
   pub edge_same : (e : Edge) → i * numbers_per_edge + numbers_per_edge ≤ length ns → i * floats_per_edge + floats_per_edge ≤ length fs
       → edge_at (put edge_number_layout ns i e) (put edge_float_layout fs i e) i ≡ e
   unfolding edge_of edge_number_layout edge_float_layout
@@ -86,6 +94,8 @@ module _ (ns : List ℕ) (fs : List Float) (i : ℕ) where
         edge_numbers_same e 1 (i * numbers_per_edge + 1) hn (omega arith) (omega arith),
         edge_numbers_same e 2 (i * numbers_per_edge + 2) hn (omega arith) (omega arith),
         edge_numbers_same e 3 (i * numbers_per_edge + 3) hn (omega arith) (omega arith),
+        edge_numbers_same e 4 (i * numbers_per_edge + 4) hn (omega arith) (omega arith),
+        preparation_same e.preparation,
         curve_same e.curve (put edge_float_layout fs i e) (i * floats_per_edge)
             (λ k m q hk. put_at edge_float_layout nan fs i k m e q hk (omega (arith, curve_fits e.curve))),
       )
@@ -139,6 +149,7 @@ module _ (ns : List ℕ) (fs : List Float) (i : ℕ) where
         n 1 (m * numbers_per_edge + 1) (omega arith) (omega arith),
         n 2 (m * numbers_per_edge + 2) (omega arith) (omega arith),
         n 3 (m * numbers_per_edge + 3) (omega arith) (omega arith),
+        n 4 (m * numbers_per_edge + 4) (omega arith) (omega arith),
         f 0 (m * floats_per_edge) (omega arith) (omega arith),
         f 1 (m * floats_per_edge + 1) (omega arith) (omega arith),
         f 2 (m * floats_per_edge + 2) (omega arith) (omega arith),
@@ -167,7 +178,7 @@ module _ (ns : List ℕ) (fs : List Float) (i : ℕ) where
         f 6 (m * floats_per_vertex + 6) (omega arith) (omega arith),
       )
 
--- ---- a record put where it stands changes nothing, where its kinds are known ones
+-- ---- a record put where it stands changes nothing, where its kinds and its preparation are known ones
 two_kinds : (k : ℕ) → k < 2 → (k ≡ 0) ⊎ (k ≡ 1)
 two_kinds zero h = inl refl
 two_kinds (suc zero) h = inr refl
@@ -189,6 +200,13 @@ module _ (k n : ℕ) (p q : Uv) (a b : Float) where
       by true = refl
       by false = refl
 
+pub preparation_kept : (n : ℕ) → n < 3 → preparation_number (preparation_of n) ≡ n
+preparation_kept zero h = refl
+preparation_kept (suc zero) h = refl
+preparation_kept (suc (suc n)) h =
+    let z : n ≡ 0 = omega arith in
+    rw z
+
 -- the run of cells of a row, at the indices by which it is read
 module _ (j : ℕ) where
   one : j + 1 ≡ suc j
@@ -206,19 +224,21 @@ module _ (j : ℕ) where
   five : j + 5 ≡ suc (suc (suc (suc (suc j))))
   five = omega arith
 
-pub edge_numbers_stand : (ns : List ℕ) (fs : List Float) (i : ℕ) → edge_kind_at ns i < 2 → put edge_number_layout ns i (edge_at ns fs i) ≡ ns
+pub edge_numbers_stand : (ns : List ℕ) (fs : List Float) (i : ℕ) → KnownEdge ns i → put edge_number_layout ns i (edge_at ns fs i) ≡ ns
 unfolding put edge_number_layout edge_of cells_at
 edge_numbers_stand ns fs i h =
     let z : i * numbers_per_edge + 0 ≡ i * numbers_per_edge = omega arith in
     rw (
-      kind_kept (edge_kind_at ns i) (get_or ns (i * numbers_per_edge + edge_curve) 0) _ _ _ _ h,
+      kind_kept (edge_kind_at ns i) (get_or ns (i * numbers_per_edge + edge_curve) 0) _ _ _ _ h.0,
+      preparation_kept (preparation_at ns i) h.1,
       number_kept (edge_kind_at ns i) (get_or ns (i * numbers_per_edge + edge_curve) 0) _ _ _ _,
       z,
       one (i * numbers_per_edge),
       two (i * numbers_per_edge),
       three (i * numbers_per_edge),
+      four (i * numbers_per_edge),
     )
-    (sets_same 0 ns (i * numbers_per_edge) 4)
+    (sets_same 0 ns (i * numbers_per_edge) numbers_per_edge)
 
 -- whatever the kind says, the cells that are read are those that are written
 curve_stands : (t : Bool) (n : ℕ) (fs : List Float) (j : ℕ)

@@ -1,7 +1,10 @@
--- Document 01's terms on the records: front and back of a use, kind and number of a curve, closed edges. Definitions only.
+-- Document 01's terms on the records: front and back of a use, kind and number of a curve, closed edges; and the number of a preparation, of
+-- document 02. Definitions only.
 use Rattle.std.specs.Prelude.{Bool, true, false, ℕ, ◌/◌, ◌%◌, eqb, Float}
 use Rattle.compress.specs.declared.Curve.{Curve}
 use Rattle.compress.specs.declared.Curve.TheVariants.{Span, Seam}
+use Rattle.compress.specs.declared.Preparation.{Preparation}
+use Rattle.compress.specs.declared.Preparation.TheVariants.{Square, SingleBevel, DoubleBevel}
 use Rattle.compress.specs.declared.Edge.{Edge}
 
 -- "a use is one number: twice the edge number, plus 1 when reversed"
@@ -51,3 +54,9 @@ first_of (Seam n p q a b) = a
 abbrev pub last_of : Curve → Float
 last_of (Span n a b) = b
 last_of (Seam n p q a b) = b
+
+-- document 02, A.5: "square, single bevel or double bevel (as a number 0, 1 or 2 ..)"
+abbrev pub preparation_number : Preparation → ℕ
+preparation_number Square = 0
+preparation_number SingleBevel = 1
+preparation_number DoubleBevel = 2

@@ -4,7 +4,7 @@ use Rattle.compress.specs.declared.Refusal.{Refusal}
 use Rattle.compress.specs.declared.Refusal.TheVariants.{Malformed, VertexNumber, EdgeNumber, NotSized, OutOfRange, NoRoom, PendingVertex, PastEnd, OddDivisor, RepeatedVertex, DeadEnd, TooManyUses, EmptyList, SeveralCuts, EmptyOpenWire}
 
 abbrev pub refusal_number : Refusal → ℕ
--- a bound on a count is passed by the input, a count or a sum of wire lengths is above what was lent, or a kind is unknown
+-- a bound on a count is passed by the input, a count or a sum of wire lengths is above what was lent, or a kind or a preparation is unknown
 refusal_number Malformed = 1
 -- a vertex number is not below the vertex count
 refusal_number VertexNumber = 2

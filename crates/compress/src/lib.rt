@@ -3,11 +3,11 @@
 
 ghost use Rattle.std.specs.Prelude.{◌≡◌, ◌+◌, ◌*◌, ◌/◌, ◌≤◌, pos, length, get_or};
 ghost use Rattle.std.specs.Float.{nan};
-ghost use Rattle.compress.specs.Records.{front_of, front_at, first_of, last_of};
+ghost use Rattle.compress.specs.Records.{front_of, front_at, first_of, last_of, preparation_number};
 ghost use Rattle.compress.specs.Points.{point_of, given};
 ghost use Rattle.compress.specs.Refusals.{refusal_number};
 ghost use Rattle.compress.specs.Layout.{put};
-ghost use Rattle.compress.specs.Rows.{HasVertex, HasEdge, curve_of, curve_at, edge_at, vertex_at};
+ghost use Rattle.compress.specs.Rows.{HasVertex, HasEdge, preparation_of, curve_of, curve_at, edge_at, vertex_at};
 
 // A point of a surface's parameter plane.
 #[derive(Clone, Copy)]
@@ -79,12 +79,30 @@ impl Curve {
     }
 }
 
-// `CompressedEdge`: the two numbers of `vertices`, and `curve`.
+// How the plate is prepared for the weld along an edge (document 02, A.5), with its number there.
+#[derive(Clone, Copy)]
+pub enum Preparation {
+    Square = 0,
+    SingleBevel = 1,
+    DoubleBevel = 2,
+}
+
+// The number of a preparation, as it lies in a row.
+impl From<Preparation> for u32 {
+    ghost from_gives = { λ p n. n ≡ preparation_number p };
+
+    fn from(p: Preparation) -> u32 {
+        p as u32
+    }
+}
+
+// `CompressedEdge`: the two numbers of `vertices`, and `curve`; and the preparation, which the Rust's record does not have.
 #[derive(Clone, Copy)]
 pub struct Edge {
     pub front: u32,
     pub back: u32,
     pub curve: Curve,
+    pub preparation: Preparation,
 }
 
 // A point of `CompressedShell`'s `vertices`: its coordinates, or the curve as it was before the cut, with the parameter. Three floats and no `Xyz`:
@@ -204,6 +222,17 @@ fn curve_of(kind: u32, number: u32, p: Uv, q: Uv, t0: f64, t1: f64) -> Curve
     }
 }
 
+// The preparation of a number. Total, as `curve_of`: a number above 2 is refused before it is read.
+fn preparation_of(n: u32) -> Preparation
+    ensures { result ≡ preparation_of n }
+{
+    match n {
+        0 => Preparation::Square,
+        1 => Preparation::SingleBevel,
+        _ => Preparation::DoubleBevel,
+    }
+}
+
 // The curve of a kind and a number, with its floats from place j on. A slice and a place, here and in `rows` and `tables`: a part of the slice would
 // be named at each call by that place and a length.
 fn curve_at(kind: u32, number: u32, floats: &[f64], j: usize) -> Curve
@@ -216,7 +245,7 @@ fn curve_at(kind: u32, number: u32, floats: &[f64], j: usize) -> Curve
 }
 
 // How many numbers, and how many floats, the row of an edge and that of a vertex have.
-pub const NUMBERS_PER_EDGE: usize = 4;
+pub const NUMBERS_PER_EDGE: usize = 5;
 
 pub const FLOATS_PER_EDGE: usize = 6;
 
@@ -224,10 +253,12 @@ pub const NUMBERS_PER_VERTEX: usize = 3;
 
 pub const FLOATS_PER_VERTEX: usize = 7;
 
-// Where the kind of its curve and the number of the curve or surface stand in the numbers of an edge, behind its two vertices.
+// Where the kind of its curve, the number of the curve or surface, and the preparation stand in the numbers of an edge, behind its two vertices.
 pub const EDGE_KIND: usize = 2;
 
 pub const EDGE_CURVE: usize = 3;
+
+pub const EDGE_PREPARATION: usize = 4;
 
 // The same of a pending vertex, behind its own kind.
 pub const CURVE_KIND: usize = 1;
@@ -253,6 +284,7 @@ pub fn edge_at(numbers: &[u32], floats: &[f64], i: usize) -> Edge
         front: numbers[a],
         back: numbers[a + 1],
         curve,
+        preparation: preparation_of(numbers[a + EDGE_PREPARATION]),
     }
 }
 

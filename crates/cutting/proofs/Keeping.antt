@@ -79,11 +79,14 @@ module _ (es : ℕ → Edge) (m : ℕ) where
   pub back_second : back_at es (m * 2 + 1) ≡ (es m).front
   back_second = back_reversed es (m * 2 + 1) odd ∙ rw half_reversed
 
--- Of n edges, each that the map does not name has its ends as before, and each that it names has its two halves: `es` before, `es'` after.
+-- Of n edges, each that the map does not name has its ends as before, and each that it names has its two halves, all with its preparation: `es` before,
+-- `es'` after.
 pub record Halved (added : List (Option ℕ)) (n : ℕ) (es es' : ℕ → Edge) : Type 0 where
   pub kept : (i : ℕ) → i < n → get_or added i None ≡ None → ((es' i).front ≡ (es i).front) × ((es' i).back ≡ (es i).back)
   pub cut : (i m : ℕ) → i < n → get_or added i None ≡ Some m
       → ((es' i).front ≡ (es i).front) × ((es' i).back ≡ (es' m).front) × ((es' m).back ≡ (es i).back)
+  pub old : (i : ℕ) → i < n → (es' i).preparation ≡ (es i).preparation
+  pub piece : (i m : ℕ) → i < n → get_or added i None ≡ Some m → (es' m).preparation ≡ (es i).preparation
 
 module _ (added : List (Option ℕ)) (n : ℕ) (es es' : ℕ → Edge) (H : Halved added n es es') where
   -- what stands for a use leads from its front to its back

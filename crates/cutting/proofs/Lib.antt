@@ -3,3 +3,4 @@ pub mod Room
 pub mod Outcome
 pub mod Reading
 pub mod Keeping
+pub mod Preparations

@@ -12,7 +12,7 @@ use Rattle.floats.specs.Exact.{midpoint_of}
 use Rattle.floats.proofs.Middle.{midpoint_between}
 use Rattle.checks.specs.Causes.{range_cause, parameter_cause, curve_cause, uv_cause, vertex_cause}
 use Rattle.checks.proofs.Lowest.{lower_none}
-use Rattle.checks.proofs.Sound.{lower_zero, range_ordered, parameter_sound}
+use Rattle.checks.proofs.Sound.{lower_zero, range_ordered, parameter_sound, curve_range}
 use Rattle.cutting.specs.cut_edge.Cut.{Middle, pending_of}
 
 pub middle_accepted : (t0 t1 : Float) → T (fits binary64 t0) → T (fits binary64 t1) → (r : Float) → r ≡ midpoint_of t0 t1
@@ -21,12 +21,6 @@ middle_accepted t0 t1 f0 f1 r p e =
     let o = range_ordered t0 t1 f0 f1 e in
     let m = midpoint_between (record { fit = f0; size = o.0 }) (record { fit = f1; size = o.1 }) o.2 in
     rw p (parameter_sound t0 t1 (midpoint_of t0 t1) f0 f1 (div-fits binary64 (add binary64 t0 t1) two64) m.0 m.1 e)
-
--- a curve without a cause has a range without one
-curve_range : (c : Curve) → curve_cause c ≡ 0 → range_cause (first_of c) (last_of c) ≡ 0
-unfolding curve_cause
-curve_range (Span n a b) e = e
-curve_range (Seam n p q a b) e = (lower_none (uv_cause q) _ (lower_none (uv_cause p) _ e).1).1
 
 -- the vertex pending on an edge's curve, where the parameter is what was computed
 pub pending_accepted : (e : Edge) (r : Float) → Middle e.curve r → curve_cause e.curve ≡ 0 → vertex_cause (pending_of e) ≡ 0

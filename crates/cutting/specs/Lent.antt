@@ -5,19 +5,13 @@ use Rattle.compress.specs.declared.Edge.{Edge}
 use Rattle.compress.specs.declared.Refusal.{Refusal}
 use Rattle.compress.specs.declared.Vertex.{Vertex}
 use Rattle.compress.specs.Shell.{Lent}
-use Rattle.rows.specs.declared.tables.Table.{Table}
 use Rattle.rows.specs.declared.tables.TableMut.{TableMut}
-use Rattle.rows.specs.declared.lent.Wires.{Wires}
 use Rattle.rows.specs.declared.lent.WiresMut.{WiresMut}
 use Rattle.cutting.specs.Contract.{Outcome, lent_of, leaves}
 
 -- what a call is lent
 abbrev pub lent : TableMut Vertex → TableMut Edge → WiresMut → Lent
 lent v e w = lent_of v.numbers.now v.floats.now e.numbers.now e.floats.now w.uses.now w.lengths.now v.count e.count w.count
-
--- the same of views that are only read
-abbrev pub seen : Table Vertex → Table Edge → Wires → Lent
-seen v e w = lent_of v.numbers.now v.floats.now e.numbers.now e.floats.now w.uses.now w.lengths.now v.count e.count w.count
 
 -- what a call leaves: its answer, and the tables and wires
 abbrev pub left : Result Counts Refusal → TableMut Vertex → TableMut Edge → WiresMut → Outcome

@@ -9,7 +9,7 @@ ghost use Rattle.compress.specs.Refusals.{cause_of};
 ghost use Rattle.compress.specs.Shell.{vertices_fit, edges_fit};
 ghost use Rattle.compress.specs.Rows.{numbers_per_edge, floats_per_edge, numbers_per_vertex, floats_per_vertex};
 ghost use Rattle.cutting.specs.Contract.{input_cause};
-ghost use Rattle.cutting.specs.Lent.{seen};
+ghost use Rattle.rows.specs.Held.{shell_in};
 
 use compress::{Checked, Edge, Vertex};
 use rows::lent::Wires;
@@ -17,7 +17,7 @@ use rows::tables::Table;
 
 // Causes 1 to 5, over all that is lent. Two tables, here and below, and no `Tables`: callers have them to be written, and would put it together at each call.
 pub fn input_cause(vertices: &Table<Vertex>, edges: &Table<Edge>, wires: &Wires) -> Checked
-    ensures { cause_of result ≡ input_cause (seen vertices.now edges.now wires.now) }
+    ensures { cause_of result ≡ input_cause (shell_in vertices.now edges.now wires.now) }
 {
     let v = checks::tables::vertices(vertices);
     let e = checks::tables::edges(vertices.count, edges);

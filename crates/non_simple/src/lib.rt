@@ -12,7 +12,7 @@ ghost use Rattle.checks.specs.Causes.{wires_cause};
 ghost use Rattle.non_simple.specs.divisor.Divided.{turned_divisor};
 ghost use Rattle.non_simple.specs.divisor.Wires.{IsWire};
 ghost use Rattle.non_simple.specs.Search.{wire_divisor, find_divisor, search_cause, find_non_simple};
-ghost use Rattle.non_simple.specs.Lent.{lent};
+ghost use Rattle.rows.specs.Held.{shell_in};
 ghost use Rattle.rows.specs.wires.Turn.{turned};
 
 use crate::divisor::doubled::Doubled;
@@ -101,7 +101,7 @@ fn search_wires(
 
 #[tactic(auto, unfolding(crate::specs::Search::search_cause))]
 fn search_cause(tables: &Tables, wires: &Wires) -> Checked
-    ensures { cause_of result ≡ search_cause (lent tables.now wires.now) }
+    ensures { cause_of result ≡ search_cause (shell_in tables.now.vertices tables.now.edges wires.now) }
 {
     let t = checks::points::tables_cause(tables);
     let w = checks::wires(tables.edges.count, wires);
@@ -111,7 +111,7 @@ fn search_cause(tables: &Tables, wires: &Wires) -> Checked
 // `find_non_simple_wire_divisor`: of the wires in order the first that can be divided, by the two vertices between which it is.
 #[tactic(auto, using(crate::proofs::Scanning::checked), unfolding(crate::specs::Search::find_non_simple))]
 pub fn find_non_simple_wire_divisor(tables: &Tables, wires: &Wires) -> Result<Option<Ends>, Refusal>
-    ensures { said_if (λ e. e) result ≡ find_non_simple (lent tables.now wires.now) }
+    ensures { said_if (λ e. e) result ≡ find_non_simple (shell_in tables.now.vertices tables.now.edges wires.now) }
 {
     search_cause(tables, wires)?;
     let tables = SoundTables {

@@ -90,8 +90,34 @@ module _ (d : Edge) (s : Shell) (i : ℕ) (e : Edge) (c : Cut) (lt : i < length 
       let q : ◌≡◌ {A = Option ℕ} None (Some m) = sym (added_else n i n k (eqb-false k i p)) ∙ z in
       cc
 
-  halved : Halved (added_at n i n) n (edge_in d s) (edge_in d after)
-  halved = record { kept = λ k h z. kept k (eqb k i) refl h z; cut = λ k m h z. cut k m (eqb k i) refl h z }
+  old : (k : ℕ) (b : Bool) → eqb k i ≡ b → k < n → (edge_in d after k).preparation ≡ (edge_in d s k).preparation
+  unfolding halves_of
+  old k true p h = rw (eqb-true k i p) (ap (λ (x : Edge). x.preparation) after_cut ∙ ap (λ (x : Edge). x.preparation) is)
+  old k false p h = ap (λ (x : Edge). x.preparation) (after_else k h (eqb-false k i p))
+
+  -- the map names edge i, and the piece cut off it
+  pub named_here : (k m : ℕ) (b : Bool) → eqb k i ≡ b → get_or (added_at n i n) k None ≡ Some m → (k ≡ i) × (m ≡ n)
+  named_here k m true p z =
+      let q : ◌≡◌ {A = Option ℕ} (Some n) (Some m) = sym (added_here n i n lt) ∙ (rw (eqb-true k i p) at z) in
+      (eqb-true k i p, cc)
+  named_here k m false p z =
+      let q : ◌≡◌ {A = Option ℕ} None (Some m) = sym (added_else n i n k (eqb-false k i p)) ∙ z in
+      cc
+
+  piece : (k m : ℕ) → get_or (added_at n i n) k None ≡ Some m → (edge_in d after m).preparation ≡ (edge_in d s k).preparation
+  unfolding halves_of
+  piece k m z =
+      let q = named_here k m (eqb k i) refl z in
+      rw (q.0, q.1) (ap (λ (x : Edge). x.preparation) after_new ∙ ap (λ (x : Edge). x.preparation) is)
+
+  pub halved : Halved (added_at n i n) n (edge_in d s) (edge_in d after)
+  halved =
+      record {
+        kept = λ k h z. kept k (eqb k i) refl h z;
+        cut = λ k m h z. cut k m (eqb k i) refl h z;
+        old = λ k h. old k (eqb k i) refl h;
+        piece = λ k m h z. piece k m z;
+      }
 
   -- connected wires stay connected, and closed ones closed
   pub cut_keeps : UsesKnown s → Keeps d s after

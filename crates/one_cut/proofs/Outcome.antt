@@ -161,7 +161,7 @@ module _ (vn : List ℕ) (vf : List Float) (en : List ℕ) (ef : List Float) (us
         let z : 0 + i ≡ i = omega arith in
         let l : 0 + length (set es i h.old) ≡ e = omega (arith, length-set es i h.old, length_rows (edge_at en ef) 0 e) in
         let p : store_from edge_number_layout en 0 (set es i h.old) ≡ put edge_number_layout en i h.old
-        = rw z at (store_set edge_number_layout edge_numbers_fit en (edge_at en ef) 0 e i h.old lt (λ j lo hi. edge_numbers_stand en ef j (A.edges.kinds j (omega arith)))) in
+        = rw z at (store_set edge_number_layout edge_numbers_fit en (edge_at en ef) 0 e i h.old lt (λ j lo hi. edge_numbers_stand en ef j (A.edges.known j (omega arith)))) in
         let q : store_from edge_float_layout ef 0 (set es i h.old) ≡ put edge_float_layout ef i h.old
         = rw z at (store_set edge_float_layout edge_floats_fit ef (edge_at en ef) 0 e i h.old lt (λ j lo hi. edge_floats_stand en ef j)) in (
           rw (store_append edge_number_layout (set es i h.old) (h.new ∷ []) en 0, l, p, store_first, store_none),

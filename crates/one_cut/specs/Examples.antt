@@ -2,6 +2,7 @@
 use Rattle.std.specs.Prelude.{◌≡◌, refl, [], ◌∷◌, ℕ, Float}
 use Rattle.compress.specs.Constants.{zero64, one64, two64}
 use Rattle.compress.specs.declared.Curve.TheVariants.{Span}
+use Rattle.compress.specs.declared.Preparation.TheVariants.{Square}
 use Rattle.compress.specs.declared.Edge.{Edge}
 use Rattle.compress.specs.declared.Vertex.TheVariants.{Given}
 use Rattle.cutting.specs.cut_edge.Cut.{halves_of}
@@ -9,7 +10,7 @@ use Rattle.cutting.specs.mending.Replace.{replace_use, replace_edges, replace_wi
 use Rattle.one_cut.specs.Cut.{added_at, cut_once}
 
 abbrev pub span_of : ℕ → ℕ → Float → Float → Edge
-span_of a b t0 t1 = record { front = a; back = b; curve = Span 7 t0 t1 }
+span_of a b t0 t1 = record { front = a; back = b; curve = Span 7 t0 t1; preparation = Square }
 
 -- edge 1 = (1, 0) of two, from 0 to 2, cut at 1 by the point (1, 0, 2): it becomes (1, 2), and edge 2 = (2, 0) is appended.
 -- The wire 1+ 0+ 1- becomes 1+ 2+ 0+ 2- 1-.

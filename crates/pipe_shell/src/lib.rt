@@ -8,8 +8,8 @@ pub mod writing;
 ghost use Rattle.std.specs.Prelude.{◌≡◌, drop, get_or, replicate};
 
 use compress::{
-    Curve, Edge, FLOATS_PER_EDGE, FLOATS_PER_VERTEX, NUMBERS_PER_EDGE, NUMBERS_PER_VERTEX, Refusal,
-    Uv, Vertex,
+    Curve, Edge, FLOATS_PER_EDGE, FLOATS_PER_VERTEX, NUMBERS_PER_EDGE, NUMBERS_PER_VERTEX,
+    Preparation, Refusal, Uv, Vertex,
 };
 use rows::lent;
 use rows::tables::{Row, Table, TableMut};
@@ -42,7 +42,7 @@ const _: () = prove!(12 == VERTICES * NUMBERS_PER_VERTEX);
 
 const _: () = prove!(28 == VERTICES * FLOATS_PER_VERTEX);
 
-const _: () = prove!(24 == EDGES * NUMBERS_PER_EDGE);
+const _: () = prove!(30 == EDGES * NUMBERS_PER_EDGE);
 
 const _: () = prove!(36 == EDGES * FLOATS_PER_EDGE);
 
@@ -50,7 +50,7 @@ const _: () = prove!(36 == EDGES * FLOATS_PER_EDGE);
 pub type Vertices = Owned<Vertex, 12, 28>;
 
 // The edges, with room for the halves of the rims and for two seams.
-pub type Edges = Owned<Edge, 24, 36>;
+pub type Edges = Owned<Edge, 30, 36>;
 
 // Wires, with room for every use of the last step: arrays with a count, since a call is lent them whole, as those of a table.
 #[derive(Clone, Copy)]
@@ -205,7 +205,7 @@ pub fn given(count: usize) -> Vertices
     vertices
 }
 
-// A rim: the closed edge at the vertex of its number, a span of the curve of its number.
+// A rim: the closed edge at the vertex of its number, a span of the curve of its number, with a single bevel for the weld.
 fn rim(number: u32) -> Edge {
     Edge {
         front: number,
@@ -215,6 +215,7 @@ fn rim(number: u32) -> Edge {
             t0: 0.0,
             t1: TURN,
         },
+        preparation: Preparation::SingleBevel,
     }
 }
 

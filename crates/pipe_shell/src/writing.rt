@@ -1,6 +1,6 @@
 // What is written of a shell, and of the step at which the way ends.
 use crate::{EDGES, Edges, Shell, Stop, Wires, notation};
-use compress::Edge;
+use compress::{Edge, Preparation};
 use std::io;
 
 // The end of the line of the step at which the way ends. No Display: one stop has no text and no end of a line, and one is an error of writing.
@@ -16,11 +16,21 @@ pub fn write_stop(rt: &impl Print, stop: Stop) -> io::Result<()> {
     }
 }
 
-// An edge by its number, with its two vertices, as 5 = (2, 3).
+// A preparation as it stands behind an edge: a square one is not named.
+fn named(p: Preparation) -> &'static str {
+    match p {
+        Preparation::Square => "",
+        Preparation::SingleBevel => " single bevel",
+        Preparation::DoubleBevel => " double bevel",
+    }
+}
+
+// An edge by its number, with its two vertices and its preparation, as 2 = (2, 0) single bevel.
 fn write_edge(rt: &impl Print, e: usize, edge: Edge) -> io::Result<()> {
     let front = edge.front;
     let back = edge.back;
-    print!(rt; " {e} = ({front}, {back})")
+    let preparation = named(edge.preparation);
+    print!(rt; " {e} = ({front}, {back}){preparation}")
 }
 
 // The edges from a number on, of those for which there are cells.
@@ -28,6 +38,9 @@ fn write_edges(rt: &impl Print, edges: &Edges, from: usize) -> io::Result<()> {
     print!(rt; "   edges")?;
     let table = edges.table();
     for e in from..edges.count.min(EDGES) {
+        if e != from {
+            print!(rt; ",")?;
+        }
         write_edge(rt, e, table.at(e))?;
     }
     println!(rt; "")

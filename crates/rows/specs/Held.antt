@@ -3,6 +3,7 @@ use Rattle.std.specs.Prelude.{Bool, ◌&&◌, List, ℕ, leb, length, take}
 use Rattle.compress.specs.declared.Edge.{Edge}
 use Rattle.compress.specs.declared.Vertex.{Vertex}
 use Rattle.compress.specs.Rows.{edge_at, vertex_at}
+use Rattle.compress.specs.Shell.{Lent}
 use Rattle.compress.specs.Wires.{total, wires_of}
 use Rattle.rows.specs.declared.tables.Table.{Table}
 use Rattle.rows.specs.declared.tables.TableMut.{TableMut}
@@ -34,3 +35,13 @@ edges_in t = edge_at t.numbers.now t.floats.now
 -- the edge of row i
 abbrev pub edge_in : TableMut Edge → ℕ → Edge
 edge_in t i = edge_at t.numbers.now t.floats.now i
+
+-- the slices and counts of a shell
+abbrev pub shell_in : Table Vertex → Table Edge → Wires → Lent
+shell_in v e w =
+    record {
+      slices = record { vn = v.numbers.now; vf = v.floats.now; en = e.numbers.now; ef = e.floats.now; us = w.uses.now; ls = w.lengths.now };
+      vertices = v.count;
+      edges = e.count;
+      wires = w.count;
+    }

@@ -13,8 +13,9 @@ ghost use Rattle.compress.specs.Shell.{uses_fit};
 ghost use Rattle.compress.specs.Rows.{floats_per_edge, HasVertex, HasEdge, numbers_per_vertex, floats_per_vertex, curve_first, curve_cells, edge_number_layout, edge_float_layout, vertex_number_layout, vertex_float_layout};
 
 use compress::{
-    CURVE_KIND, Curve, EDGE_CURVE, EDGE_KIND, Edge, FLOATS_PER_EDGE, FLOATS_PER_VERTEX,
-    NUMBERS_PER_EDGE, NUMBERS_PER_VERTEX, PARAMETER, T0, T1, VERTEX_CURVE, Vertex,
+    CURVE_KIND, Curve, EDGE_CURVE, EDGE_KIND, EDGE_PREPARATION, Edge, FLOATS_PER_EDGE,
+    FLOATS_PER_VERTEX, NUMBERS_PER_EDGE, NUMBERS_PER_VERTEX, PARAMETER, T0, T1, VERTEX_CURVE,
+    Vertex,
 };
 
 // ---- records
@@ -72,6 +73,7 @@ fn put_edge(numbers: &mut [u32], floats: &mut [f64], i: usize, e: Edge)
     numbers[a + 1] = e.back;
     numbers[a + EDGE_KIND] = kind_of(curve);
     numbers[a + EDGE_CURVE] = number_of(curve);
+    numbers[a + EDGE_PREPARATION] = u32::from(e.preparation);
     put_curve(floats, i * FLOATS_PER_EDGE, curve);
 }
 

@@ -193,7 +193,7 @@ module _ (l : LentSplit) (C : SplitChecked l) where
       let es = rows (edge_at l.buffers.en l.buffers.ef) 0 l.edges in
       let le : 0 + length es ≡ l.edges = omega (arith, length_rows (edge_at l.buffers.en l.buffers.ef) 0 l.edges) in
       let p : store_from edge_number_layout l.buffers.en 0 es ≡ l.buffers.en
-      = store_same edge_number_layout l.buffers.en (edge_at l.buffers.en l.buffers.ef) 0 l.edges (λ j lo hi. edge_numbers_stand l.buffers.en l.buffers.ef j (C.accepted.edges.kinds j (omega arith))) in
+      = store_same edge_number_layout l.buffers.en (edge_at l.buffers.en l.buffers.ef) 0 l.edges (λ j lo hi. edge_numbers_stand l.buffers.en l.buffers.ef j (C.accepted.edges.known j (omega arith))) in
       let q : store_from edge_float_layout l.buffers.ef 0 es ≡ l.buffers.ef
       = store_same edge_float_layout l.buffers.ef (edge_at l.buffers.en l.buffers.ef) 0 l.edges (λ j lo hi. edge_floats_stand l.buffers.en l.buffers.ef j) in
       let n : store_from edge_number_layout l.buffers.en 0 (edges_after (given_in l)) ≡ store_from edge_number_layout l.buffers.en l.edges seams_in

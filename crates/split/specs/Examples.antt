@@ -2,6 +2,7 @@
 use Rattle.std.specs.Prelude.{◌≡◌, refl, List, [], ◌∷◌, ℕ, Float}
 use Rattle.compress.specs.Constants.{zero64, one64, two64, four64}
 use Rattle.compress.specs.declared.Curve.TheVariants.{Seam}
+use Rattle.compress.specs.declared.Preparation.TheVariants.{Square}
 use Rattle.compress.specs.declared.Edge.{Edge}
 use Rattle.compress.specs.Worked.{between, k9_edges, k9_wire}
 use Rattle.compress.specs.Records.{front_of, back_of, front_at, back_at}
@@ -30,7 +31,7 @@ k10 = given 4 k9_edges k9_wire (stop 3 zero64 one64 ∷ stop 1 two64 four64 ∷ 
 abbrev pub k10_edges : List Edge
 k10_edges =
     between 0 2 ∷ between 0 1 ∷ between 1 0 ∷ between 2 3 ∷ between 3 2
-    ∷ record { front = 3; back = 1; curve = Seam 7 (record { u = zero64; v = one64 }) (record { u = two64; v = four64 }) zero64 one64 }
+    ∷ record { front = 3; back = 1; curve = Seam 7 (record { u = zero64; v = one64 }) (record { u = two64; v = four64 }) zero64 one64; preparation = Square }
     ∷ []
 
 abbrev pub k10_answer : Answer

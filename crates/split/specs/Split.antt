@@ -2,6 +2,7 @@
 use Rattle.std.specs.Prelude.{Bool, List, ◌++◌, ℕ, length, get_or}
 use Rattle.std.specs.Float.{nan}
 use Rattle.compress.specs.declared.Curve.TheVariants.{Span}
+use Rattle.compress.specs.declared.Preparation.TheVariants.{Square}
 use Rattle.compress.specs.declared.Edge.{Edge}
 use Rattle.compress.specs.Records.{front_at, back_at}
 use Rattle.walk.specs.Walk.{Answer}
@@ -29,7 +30,7 @@ edges_after g = g.edges ++ seams g
 
 -- what stands for an edge that is not there, which no use has
 abbrev pub no_edge : Edge
-no_edge = record { front = 0; back = 0; curve = Span 0 nan nan }
+no_edge = record { front = 0; back = 0; curve = Span 0 nan nan; preparation = Square }
 
 abbrev pub edge_after : Given → ℕ → Edge
 edge_after g i = get_or (edges_after g) i no_edge

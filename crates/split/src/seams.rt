@@ -9,7 +9,7 @@ ghost use Rattle.rows.specs.Places.{SameTable};
 ghost use Rattle.split.specs.seams.Seams.{floats_per_stop, floats_per_pair, stop_at, seam_of, seams_of, repeats_after};
 ghost use Rattle.split.specs.seams.Stops.{odd_cause, repeat_cause, stop_cause, stops_cause};
 
-use compress::{Checked, Curve, Edge, Refusal, Uv};
+use compress::{Checked, Curve, Edge, Preparation, Refusal, Uv};
 use rows::tables::TableMut;
 
 // ---- the vertices on the divisor
@@ -129,6 +129,7 @@ fn seam_of(surface: u32, a: Stop, b: Stop) -> Edge
         front: a.vertex,
         back: b.vertex,
         curve,
+        preparation: Preparation::Square,
     }
 }
 

@@ -14,10 +14,10 @@ use Rattle.compress.specs.Shell.{Shell, load}
 use Rattle.cutting.specs.cut_edge.Cut.{middle_of, halves_of}
 use Rattle.split_closed_edges.specs.add_edges.Add.{next, kept_edges, new_edges, added_to}
 use Rattle.split_closed_edges.specs.Pass.{split_closed_edges}
-use Rattle.cutting.specs.Keeps.{UsesKnown, Keeps}
+use Rattle.cutting.specs.Keeps.{edge_in, UsesKnown, Keeps}
 use Rattle.cutting.specs.Contract.{lent_of, input_cause}
 use Rattle.split_closed_edges.proofs.add_edges.Edges.{length_kept}
-use Rattle.cutting.proofs.Keeping.{keeps, lent_known}
+use Rattle.cutting.proofs.Keeping.{Halved, keeps, lent_known}
 
 -- Edge k of es, where n is the next free vertex number and m the next free edge number: it stands as it did, or it has its halves, and its
 -- second half is number j among the new ones.
@@ -81,18 +81,36 @@ module _ (d : Edge) (es : List Edge) (n : ℕ) where
       let b = ap after is ∙ after_new j ∙ t in
       (ap (λ (e : Edge). e.front) a, ap (λ (e : Edge). e.back) a ∙ sym (ap (λ (e : Edge). e.front) b), ap (λ (e : Edge). e.back) b)
 
+  fate_old : (k : ℕ) → k < length es → Fate d es n (length es) k → (after k).preparation ≡ (get_or es k d).preparation
+  unfolding halves_of
+  fate_old k lt (stays p r) = ap (λ (e : Edge). e.preparation) (after_kept k lt ∙ r)
+  fate_old k lt (halved j p r t) = ap (λ (e : Edge). e.preparation) (after_kept k lt ∙ r)
+
+  fate_piece : (k m : ℕ) → Fate d es n (length es) k → get_or (added_to (length es) es) k None ≡ Some m → (after m).preparation ≡ (get_or es k d).preparation
+  unfolding halves_of
+  fate_piece k m (stays p r) z = let q : ◌≡◌ {A = Option ℕ} None (Some m) = sym p ∙ z in cc
+  fate_piece k m (halved j p r t) z =
+      let q : ◌≡◌ {A = Option ℕ} (Some m) (Some (length es + j)) = sym z ∙ p in
+      let is : m ≡ length es + j = cc in
+      ap (λ (e : Edge). e.preparation) (ap after is ∙ after_new j ∙ t)
+
+-- the pass halves the edges that its map names
+pub pass_halved : (d : Edge) (s : Shell) → Halved (added_to (length s.edges) s.edges) (length s.edges) (edge_in d s) (edge_in d (split_closed_edges s))
+unfolding split_closed_edges
+pass_halved d s =
+    let es = s.edges in
+    let n = length s.vertices in
+    record {
+      kept = λ i lt z. fate_kept d es n i lt (fate d es n (length es) i lt) z;
+      cut = λ i m lt z. fate_cut d es n i m lt (fate d es n (length es) i lt) z;
+      old = λ i lt. fate_old d es n i lt (fate d es n (length es) i lt);
+      piece = λ i m lt z. fate_piece d es n i m (fate d es n (length es) i lt) z;
+    }
+
 -- connected wires stay connected in the closed-edge pass, and closed ones closed
 pub pass_keeps : (d : Edge) (s : Shell) → UsesKnown s → Keeps d s (split_closed_edges s)
 unfolding split_closed_edges
-pass_keeps d s known =
-    let es = s.edges in
-    let n = length s.vertices in
-    keeps d s (split_closed_edges s) (added_to (length es) es) known
-    (record {
-      kept = λ i lt z. fate_kept d es n i lt (fate d es n (length es) i lt) z;
-      cut = λ i m lt z. fate_cut d es n i m lt (fate d es n (length es) i lt) z;
-    })
-    refl
+pass_keeps d s known = keeps d s (split_closed_edges s) (added_to (length s.edges) s.edges) known (pass_halved d s) refl
 
 -- of a call: what was lent has none of the causes 1 to 5
 module _ (vn : List ℕ) (vf : List Float) (en : List ℕ) (ef : List Float) (us ls : List ℕ) (v e w : ℕ) (z : input_cause (lent_of vn vf en ef us ls v e w) ≡ 0) where

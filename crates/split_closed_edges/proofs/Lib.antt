@@ -1,3 +1,4 @@
 pub mod Outcome
 pub mod Laws
+pub mod Preparations
 pub mod Reading

@@ -206,7 +206,7 @@ module _ (vn : List ℕ) (vf : List Float) (en : List ℕ) (ef : List Float) (us
             vertex_floats = omega arith;
             edge_numbers = omega arith;
             edge_floats = omega arith;
-            kinds = A.edges.kinds;
+            known = A.edges.known;
             vertices = A.vertices.rows;
             curves = λ j h. edge_passes v (edge_at en ef j) (A.edges.rows j h);
           }

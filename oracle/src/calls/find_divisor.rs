@@ -1,7 +1,7 @@
 //! The search for a divisor of a non-simple wire.
 
-use super::tables::{make_pending, records, sample_edges, spans, spoil_pairs, Spoil};
-use super::tables::{POINTS, SPOILS};
+use super::tables::{in_turn, make_pending, records, sample_edges, spans, spoil_pairs};
+use super::tables::{Spoil, POINTS, SPOILS};
 use super::Families;
 use crate::cells::{Cells, Kind, Slice};
 use crate::compare::{read, Case, Input, Lending, NONE};
@@ -334,7 +334,7 @@ impl Families for FindDivisor {
             });
         let _ = of_wires
             && LAYOUTS.iter().all(|ends| {
-                let edges = spans(ends);
+                let edges = in_turn(&spans(ends), 0);
                 each_list(6, 5, &mut |list| {
                     let wire: Vec<u32> = list.iter().map(|&i| i as u32).collect();
                     visit(&FindDivisor::over(&POINTS, &edges, &[wire]))

@@ -1,6 +1,7 @@
 //! Nearest ends: the nearest fronts of two stretches of uses.
 
-use super::tables::{make_pending, records, sample_edges, spoil_pairs, tables, POINTS, SPOILS};
+use super::tables::{in_turn, make_pending, records, sample_edges, spans, spoil_pairs, tables};
+use super::tables::{POINTS, SPOILS};
 use super::Families;
 use crate::cells::{Cells, Kind, Slice};
 use crate::compare::{read, Case, Input, Lending, NONE};
@@ -353,7 +354,7 @@ impl Families for NearestEnds {
             }
         }
         let lists = short_lists();
-        let edges = super::tables::spans(&[(0, 1), (2, 0), (1, 1)]);
+        let edges = in_turn(&spans(&[(0, 1), (2, 0), (1, 1)]), 0);
         for points in layouts() {
             let tables = tables(&points, &edges);
             for first in &lists {

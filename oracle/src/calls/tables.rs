@@ -7,9 +7,9 @@ use crate::inputs::{any_size, edge, float};
 use crate::model::{MOST_EDGES, MOST_VERTICES};
 use crate::port::Rows;
 use crate::random::Random;
-use crate::records::{Curve, Edge, Shell, Vertex};
+use crate::records::{Curve, Edge, Preparation, Shell, Vertex};
 use crate::shell::{needed, write_vertex, Lent, Tables};
-use crate::shell::{EDGE_FLOATS, EDGE_NUMBERS, VERTEX_FLOATS, VERTEX_NUMBERS};
+use crate::shell::{EDGE_FLOATS, EDGE_NUMBERS, PREPARATION, VERTEX_FLOATS, VERTEX_NUMBERS};
 
 impl Tables {
     /// What the four slices hold.
@@ -60,7 +60,7 @@ pub const POINTS: [Vertex; 4] = [
 /// The ends of K9's edges, and those of a seam that is in no wire.
 const ENDS: [(u32, u32); 6] = [(0, 2), (0, 1), (1, 0), (2, 3), (3, 2), (3, 3)];
 
-/// Spans between the given ends.
+/// Square spans between the given ends.
 pub fn spans(ends: &[(u32, u32)]) -> Vec<Edge> {
     let edge = |(number, &(front, back)): (usize, &(u32, u32))| Edge {
         front,
@@ -70,8 +70,15 @@ pub fn spans(ends: &[(u32, u32)]) -> Vec<Edge> {
             t0: 0.0,
             t1: 8.0,
         },
+        preparation: Preparation::Square,
     };
     ends.iter().enumerate().map(edge).collect()
+}
+
+/// The same edges with the three preparations in turn.
+pub fn in_turn(edges: &[Edge], turn: usize) -> Vec<Edge> {
+    let edge = |(row, edge): (usize, &Edge)| edge.prepared(Preparation::in_turn(turn + row));
+    edges.iter().enumerate().map(edge).collect()
 }
 
 /// K9's edges, and the unused seam as edge 5.
@@ -145,8 +152,48 @@ pub fn make_pending(tables: &mut Tables, row: usize) {
     );
 }
 
+/// The last of at most six edge rows, whatever the count has become.
+fn last_row(tables: &Tables) -> usize {
+    tables.edges.clamp(1, 6) - 1
+}
+
+/// What is done to the preparations of the sample's edges, or of others: edge 1
+/// is used, and the last is not.
+pub const OF_PREPARATIONS: [Spoil; 7] = [
+    ("preparation 3 in a used edge row", 1, |t| {
+        edge_number(t, 1, PREPARATION, 3)
+    }),
+    ("preparation 3 in an unused edge row", 1, |t| {
+        edge_number(t, last_row(t), PREPARATION, 3)
+    }),
+    ("largest preparation", 1, |t| {
+        edge_number(t, 0, PREPARATION, u32::MAX)
+    }),
+    ("largest preparation of an unused edge", 1, |t| {
+        edge_number(t, last_row(t), PREPARATION, u32::MAX)
+    }),
+    ("preparation 3 and a front too large before it", 1, |t| {
+        edge_number(t, 0, 0, t.vertices as u32);
+        edge_number(t, last_row(t), PREPARATION, 3);
+    }),
+    ("preparation 3 and a back too large behind it", 1, |t| {
+        edge_number(t, 0, PREPARATION, 3);
+        edge_number(t, last_row(t), 1, t.vertices as u32);
+    }),
+    ("one number of each edge row too few", 1, |t| {
+        t.edge_numbers.truncate(t.edges * (EDGE_NUMBERS - 1))
+    }),
+];
+
 /// What is done to the sample's tables.
-pub const SPOILS: [Spoil; 30] = [
+pub const SPOILS: [Spoil; 39] = [
+    OF_PREPARATIONS[0],
+    OF_PREPARATIONS[1],
+    OF_PREPARATIONS[2],
+    OF_PREPARATIONS[3],
+    OF_PREPARATIONS[4],
+    OF_PREPARATIONS[5],
+    OF_PREPARATIONS[6],
     ("kind 2 in an edge row", 1, |t| edge_number(t, 0, 2, 2)),
     ("kind 2 in an unused edge row", 1, |t| {
         edge_number(t, 5, 2, 2)
@@ -208,6 +255,13 @@ pub const SPOILS: [Spoil; 30] = [
     }),
     ("curve kind 2 beside a given vertex", 0, |t| {
         vertex_number(t, 0, 1, 2)
+    }),
+    ("each preparation", 0, |t| {
+        (0..6).for_each(|row| edge_number(t, row, PREPARATION, row as u32 % 3))
+    }),
+    ("preparation 3 behind the edges", 0, |t| {
+        t.edges = 5;
+        edge_number(t, 5, PREPARATION, 3);
     }),
     ("least float for y of all vertices", 0, |t| {
         (0..4).for_each(|row| vertex_float(t, row, 1, 5.0e-324))

@@ -34,22 +34,26 @@ fn given(points: &[Point3]) -> Vec<records::Vertex> {
     points.iter().map(vertex).collect()
 }
 
-/// Edges as they are lent.
-fn from_edges<P>(edges: &[Edge<On<P>>]) -> Vec<records::Edge> {
-    edges.iter().map(from_rust).collect()
-}
-
 /// The closed-edge pass, over wires that stand in one face.
-pub struct Pass(Shell<records::Vertex, On<records::Vertex>, ()>);
+pub struct Pass {
+    shell: Shell<records::Vertex, On<records::Vertex>, ()>,
+    /// Those of all edges after the pass, which the Rust does not see.
+    preparations: Vec<Preparation>,
+}
 
 impl Pass {
     /// The pass over a shell that grows by so many vertices and edges.
     pub fn of(shell: &records::Shell, more: usize) -> Self {
-        Pass(Shell {
+        let preparations = preparations(&shell.edges, of_closed(&shell.edges));
+        let shell = Shell {
             vertices: roomy(shell.vertices.clone(), more),
             edges: roomy(shell.edges.iter().map(to_rust).collect(), more),
             faces: deal(&shell.wires, 1),
-        })
+        };
+        Pass {
+            shell,
+            preparations,
+        }
     }
 }
 
@@ -57,21 +61,22 @@ impl Ready for Pass {
     type Answer = records::Shell;
 
     fn renew(&mut self, from: &Self) {
-        self.0.vertices.clone_from(&from.0.vertices);
-        self.0.edges.clone_from(&from.0.edges);
-        let boundaries = &mut self.0.faces[0].boundaries;
-        boundaries.clone_from(&from.0.faces[0].boundaries);
+        let (shell, from) = (&mut self.shell, &from.shell);
+        shell.vertices.clone_from(&from.vertices);
+        shell.edges.clone_from(&from.edges);
+        let boundaries = &mut shell.faces[0].boundaries;
+        boundaries.clone_from(&from.faces[0].boundaries);
     }
 
     fn run(&mut self) {
-        split_closed_edges::split_closed_edges(&mut self.0);
+        split_closed_edges::split_closed_edges(&mut self.shell);
     }
 
     fn answer(&self) -> records::Shell {
         records::Shell {
-            vertices: self.0.vertices.clone(),
-            edges: from_edges(&self.0.edges),
-            wires: from_wires(&self.0.faces[0].boundaries),
+            vertices: self.shell.vertices.clone(),
+            edges: from_edges(&self.shell.edges, &self.preparations),
+            wires: from_wires(&self.shell.faces[0].boundaries),
         }
     }
 }
@@ -271,6 +276,8 @@ pub struct OneCut {
     wires: Vec<Wire>,
     edge: usize,
     cuts: Vec<(f64, Point3)>,
+    /// Those of all edges after the cut, which the Rust does not see.
+    preparations: Vec<Preparation>,
 }
 
 impl OneCut {
@@ -282,6 +289,7 @@ impl OneCut {
             wires: to_wires(&shell.wires),
             edge: edge as usize,
             cuts: vec![(t, Point3::new(x, y, z))],
+            preparations: preparations(&shell.edges, [shell.edges[edge as usize].preparation]),
         }
     }
 }
@@ -306,7 +314,7 @@ impl Ready for OneCut {
     fn answer(&self) -> records::Shell {
         records::Shell {
             vertices: given(&self.vertices),
-            edges: from_edges(&self.edges),
+            edges: from_edges(&self.edges, &self.preparations),
             wires: from_wires(&self.wires),
         }
     }
@@ -320,6 +328,8 @@ pub struct Split {
     list: Vec<(f64, (usize, Point2))>,
     surface: Surface,
     built: Vec<Wire>,
+    /// Those of all edges after the split, which the Rust does not see.
+    preparations: Vec<Preparation>,
 }
 
 impl Split {
@@ -332,6 +342,7 @@ impl Split {
             list: to_list(list),
             surface: Surface { number: surface },
             built: Vec::new(),
+            preparations: preparations(&shell.edges, of_seams(list)),
         }
     }
 }
@@ -356,7 +367,8 @@ impl Ready for Split {
     }
 
     fn answer(&self) -> Rebuilt {
-        (from_edges(&self.edges), from_wires(&self.built))
+        let edges = from_edges(&self.edges, &self.preparations);
+        (edges, from_wires(&self.built))
     }
 }
 

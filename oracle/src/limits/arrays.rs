@@ -4,7 +4,7 @@
 use super::ways::{done, edge, held, refused, span};
 use super::ORIGIN;
 use crate::compare::Case;
-use crate::records::{Shell, Vertex};
+use crate::records::{Preparation, Shell, Vertex};
 use crate::shell::{needed, Lent};
 
 /// Two numbers, and the names of a call that is done and of one without room.
@@ -72,11 +72,15 @@ pub fn mended(wires: &[Vec<u32>], cut: impl Fn(u32) -> Option<u32>) -> Vec<Vec<u
     wires.iter().map(mend).collect()
 }
 
-/// So many closed edges at one vertex and so many uses of them, before and
-/// after the pass.
+/// So many closed edges at one vertex, with the preparations in turn, and so
+/// many uses of them, before and after the pass.
 fn rings(edges: usize, uses: usize) -> (Shell, Shell) {
     let all = 0..edges as u32;
     let curve = |number: u32| span(number, 0.0, 8.0);
+    let prepared = |i: u32, from: u32, to: u32, t0: f64, t1: f64| {
+        let edge = edge(from, to, span(i, t0, t1));
+        edge.prepared(Preparation::in_turn(i as usize))
+    };
     let wires = two_wires(edges, uses);
     let mut after = Shell {
         vertices: vec![ORIGIN],
@@ -85,14 +89,14 @@ fn rings(edges: usize, uses: usize) -> (Shell, Shell) {
     };
     let before = Shell {
         vertices: vec![ORIGIN],
-        edges: all.clone().map(|i| edge(0, 0, curve(i))).collect(),
+        edges: all.clone().map(|i| prepared(i, 0, 0, 0.0, 8.0)).collect(),
         wires,
     };
     let middles = all.clone().map(|i| Vertex::Pending(curve(i), 4.0));
     after.vertices.extend(middles);
-    let halves = all.clone().map(|i| edge(0, i + 1, span(i, 0.0, 4.0)));
+    let halves = all.clone().map(|i| prepared(i, 0, i + 1, 0.0, 4.0));
     after.edges.extend(halves);
-    let halves = all.map(|i| edge(i + 1, 0, span(i, 4.0, 8.0)));
+    let halves = all.map(|i| prepared(i, i + 1, 0, 4.0, 8.0));
     after.edges.extend(halves);
     (before, after)
 }

@@ -3,7 +3,7 @@
 
 use crate::compare::{Case, Expected};
 use crate::random::Random;
-use crate::records::{self, Curve, Edge, Shell, Vertex};
+use crate::records::{self, Curve, Edge, Preparation, Shell, Vertex};
 use crate::shell::{needed, Lent, Tables};
 use crate::shell::{EDGE_FLOATS, EDGE_NUMBERS, VERTEX_FLOATS, VERTEX_NUMBERS};
 
@@ -12,9 +12,14 @@ pub fn span(number: u32, t0: f64, t1: f64) -> Curve {
     Curve::Span { number, t0, t1 }
 }
 
-/// An edge.
+/// A square edge.
 pub fn edge(front: u32, back: u32, curve: Curve) -> Edge {
-    Edge { front, back, curve }
+    Edge {
+        front,
+        back,
+        curve,
+        preparation: Preparation::Square,
+    }
 }
 
 /// A shell whose wires are in notation.
@@ -56,7 +61,7 @@ pub fn done(name: &'static str, before: &Shell, after: &Shell) -> Case<Lent> {
 /// written out: vertex rows, edge rows, uses and the length.
 pub fn cells(
     vertices: ([u32; 6], [f64; 14]),
-    edges: ([u32; 8], [f64; 12]),
+    edges: ([u32; 10], [f64; 12]),
     (uses, length): ([u32; 2], u32),
 ) -> Lent {
     Lent {
@@ -74,8 +79,9 @@ pub fn cells(
     }
 }
 
-/// K1 cell by cell. The cells that hold 77 belong to no record.
-pub fn k1_cells() -> Lent {
+/// K1 cell by cell, with an edge of a preparation. The cells that hold 77
+/// belong to no record.
+pub fn k1_cells(preparation: u32) -> Lent {
     let k = 77.0;
     cells(
         (
@@ -83,7 +89,7 @@ pub fn k1_cells() -> Lent {
             [0.0, 0.0, 0.0, k, k, k, k, k, k, k, k, k, k, k],
         ),
         (
-            [0, 0, 0, 7, 77, 77, 77, 77],
+            [0, 0, 0, 7, preparation, 77, 77, 77, 77, 77],
             [k, k, k, k, 0.0, 8.0, k, k, k, k, k, k],
         ),
         ([0, 77], 1),
@@ -115,8 +121,8 @@ pub fn unharmed(name: &'static str, change: impl Fn(&mut Lent)) -> Case<Lent> {
     case
 }
 
-/// Three vertices, one of each kind, and three edges: an open span, a closed
-/// seam and an unused open span.
+/// Three vertices, one of each kind, and three edges, one of each preparation:
+/// an open span, a closed seam and an unused open span.
 pub fn sample(name: &'static str) -> Case<Lent> {
     let seam = |surface: u32, first: f64, t0: f64, t1: f64| Curve::Seam {
         surface,
@@ -130,25 +136,20 @@ pub fn sample(name: &'static str) -> Case<Lent> {
         Vertex::Pending(span(5, 0.0, 2.0), 1.0),
         Vertex::Pending(seam(6, 0.0, 0.0, 1.0), 0.25),
     ];
-    let (open, unused) = (span(9, 0.0, 1.0), span(10, -1.0, 3.0));
+    let open = edge(0, 1, span(9, 0.0, 1.0)).prepared(Preparation::SingleBevel);
+    let unused = edge(2, 0, span(10, -1.0, 3.0));
+    let closed = |front: u32, back: u32, t0: f64, t1: f64| {
+        edge(front, back, seam(4, 0.5, t0, t1)).prepared(Preparation::DoubleBevel)
+    };
     let before = shell(
         &vertices,
-        &[
-            edge(0, 1, open),
-            edge(1, 1, seam(4, 0.5, 0.0, 1.0)),
-            edge(2, 0, unused),
-        ],
+        &[open, closed(1, 1, 0.0, 1.0), unused],
         &["0+ 1+ 0-", "", "1-"],
     );
     vertices.push(Vertex::Pending(seam(4, 0.5, 0.0, 1.0), 0.5));
     let after = shell(
         &vertices,
-        &[
-            edge(0, 1, open),
-            edge(1, 3, seam(4, 0.5, 0.0, 0.5)),
-            edge(2, 0, unused),
-            edge(3, 1, seam(4, 0.5, 0.5, 1.0)),
-        ],
+        &[open, closed(1, 3, 0.0, 0.5), unused, closed(3, 1, 0.5, 1.0)],
         &["0+ 1+ 3+ 0-", "", "3- 1-"],
     );
     done(name, &before, &after)

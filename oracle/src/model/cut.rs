@@ -1,6 +1,6 @@
 //! The refusals of the cut of an edge, and what its result counts.
 
-use super::{edge_float, end_unknown, float_unfit, kind_unknown, range_unfit};
+use super::{edge_float, end_unknown, float_unfit, kind_or_preparation_unknown, range_unfit};
 use super::{lowest, tables_passed, unfit, use_count, use_unknown, wires_passed};
 use crate::shell::Lent;
 
@@ -22,7 +22,7 @@ pub fn cut_refused(lent: &Lent, cuts: &Cuts) -> Option<i32> {
         (1, &|| tables_passed(tables)),
         (1, &|| wires_passed(lent)),
         (1, &|| cuts_passed(cuts)),
-        (1, &|| kind_unknown(tables)),
+        (1, &|| kind_or_preparation_unknown(tables)),
         (2, &|| end_unknown(tables)),
         (3, &|| use_unknown(uses(), tables.edges)),
         (3, &|| cuts.edge as usize >= tables.edges),

@@ -2,7 +2,7 @@
 //! of fronts alone, so the model decides that as well.
 
 use super::search::{stretches_passed, Stretches};
-use super::{edge_float_unfit, edge_kind_unknown, edge_range_unfit, edges_passed};
+use super::{edge_float_unfit, edge_kind_or_preparation_unknown, edge_range_unfit, edges_passed};
 use super::{end_unknown, lowest, use_count, use_unknown};
 use super::{MOST_USES, MOST_VERTICES, MOST_WIRES};
 use crate::shell::Lent;
@@ -44,7 +44,7 @@ pub fn join_refused(join: &Joining) -> Option<i32> {
         (1, &|| edges_passed(tables)),
         (1, &|| stretches_passed(&join.open)),
         (1, &|| new_wires_passed(join)),
-        (1, &|| edge_kind_unknown(tables)),
+        (1, &|| edge_kind_or_preparation_unknown(tables)),
         (2, &|| end_unknown(tables)),
         (2, &|| join.open.v0.max(join.v1) as usize >= tables.vertices),
         (3, &|| unknown(&join.open_wires().concat())),

@@ -2,7 +2,7 @@
 //! search comes to an answer is a question of edge numbers alone, so the
 //! model decides that as well.
 
-use super::{any_pending, end_unknown, float_unfit, kind_unknown, range_unfit};
+use super::{any_pending, end_unknown, float_unfit, kind_or_preparation_unknown, range_unfit};
 use super::{lowest, refused, tables_passed, use_unknown, MOST_USES};
 use crate::shell::{Lent, Tables};
 
@@ -24,7 +24,7 @@ pub fn nearest_refused(tables: &Tables, stretches: &Stretches) -> Option<i32> {
     lowest(&[
         (1, &|| tables_passed(tables)),
         (1, &|| stretches_passed(stretches)),
-        (1, &|| kind_unknown(tables)),
+        (1, &|| kind_or_preparation_unknown(tables)),
         (2, &|| end_unknown(tables)),
         (2, &|| stretches.v0 as usize >= tables.vertices),
         (3, &|| use_unknown(&used(), tables.edges)),

@@ -1,7 +1,7 @@
 //! The refusals of the split before its walk, and what must hold of its
 //! answer however the walk goes: demand 3 without the walk.
 
-use super::{edge_float_unfit, edge_kind_unknown, edge_range_unfit, edges_passed};
+use super::{edge_float_unfit, edge_kind_or_preparation_unknown, edge_range_unfit, edges_passed};
 use super::{end_unknown, lowest, unfit, use_unknown};
 use super::{MOST_EDGES, MOST_USES, MOST_VERTICES, MOST_WIRES};
 use crate::port::Wires;
@@ -49,7 +49,7 @@ pub fn split_refused(split: &Splitting) -> Option<i32> {
         (1, &|| edges_passed(tables)),
         (1, &|| both_passed(split)),
         (1, &|| list_passed(split)),
-        (1, &|| edge_kind_unknown(tables)),
+        (1, &|| edge_kind_or_preparation_unknown(tables)),
         (2, &|| end_unknown(tables)),
         (2, &|| vertex_unknown(split)),
         (3, &|| unknown(&split.face) || unknown(&split.rebuilt)),

@@ -4,7 +4,7 @@ use super::pass::{fits, mend, mended_wires, write, Mended};
 use super::tables::{edge_rows, sized};
 use super::Reference;
 use crate::port::{Cut, Pass};
-use crate::records::{Curve, Edge, Vertex};
+use crate::records::{Curve, Edge, Preparation, Vertex};
 use crate::shell::read_edge;
 
 /// From where to where a parameter runs.
@@ -31,6 +31,8 @@ pub struct Steps {
     pub vertex: fn([f64; 4], Curve) -> Vertex,
     /// The ends of both pieces, from the ends of the edge and the new vertex.
     pub ends: fn(Ends, u32) -> [Ends; 2],
+    /// The preparations of both pieces, from that of the edge.
+    pub preparations: fn(Preparation) -> [Preparation; 2],
     /// What a use of the edge becomes, from that use and the new edge.
     pub mend: fn(u32, u32) -> [u32; 2],
     /// Whether a use of the edge is mended, from the number of its wire and
@@ -51,6 +53,7 @@ impl Default for Steps {
             },
             vertex: |[_, x, y, z], _| Vertex::Given(x, y, z),
             ends: |(a, b), new| [(a, new), (new, b)],
+            preparations: |old| [old; 2],
             mend,
             mends: |_, _| true,
         }
@@ -118,14 +121,21 @@ impl Steps {
         let cuts = call.cuts.chunks_exact(4).take(call.cut_count.min(1));
         for cells in cuts {
             let cut = [0, 1, 2, 3].map(|cell| f64::from_bits(cells[cell]));
-            let Edge { front, back, curve } = edges[row];
+            let Edge {
+                front,
+                back,
+                curve,
+                preparation,
+            } = edges[row];
             let t = (self.parameter)(cut, curve.range());
             let pieces = (self.pieces)(curve, t);
             let ends = (self.ends)((front, back), call.pass.vertices as u32);
+            let preparations = (self.preparations)(preparation);
             let [kept, added] = [0, 1].map(|piece| Edge {
                 front: ends[piece].0,
                 back: ends[piece].1,
                 curve: pieces[piece],
+                preparation: preparations[piece],
             });
             vertices.push((self.vertex)(cut, curve));
             edges[row] = kept;

@@ -3,7 +3,7 @@
 use super::tables::{edge_rows, have_room};
 use super::Reference;
 use crate::port::Pass;
-use crate::records::{Curve, Edge, Vertex};
+use crate::records::{Curve, Edge, Preparation, Vertex};
 use crate::shell::{read_edge, write_edge, write_vertex};
 use crate::shell::{EDGE_FLOATS, EDGE_NUMBERS, VERTEX_FLOATS, VERTEX_NUMBERS};
 
@@ -22,6 +22,8 @@ pub struct Steps {
     pub pending: fn(Curve, [Curve; 2], f64) -> Vertex,
     /// The ends of both halves, from the old vertex and the new one.
     pub ends: fn(u32, u32) -> [(u32, u32); 2],
+    /// The preparations of both halves, from that of the old edge.
+    pub preparations: fn(Preparation) -> [Preparation; 2],
     /// What a use of a cut edge becomes, from that use and the new edge.
     pub mend: fn(u32, u32) -> [u32; 2],
 }
@@ -40,6 +42,7 @@ impl Default for Steps {
             },
             pending: |curve, _, t| Vertex::Pending(curve, t),
             ends: |old, new| [(old, new), (new, old)],
+            preparations: |old| [old; 2],
             mend,
         }
     }
@@ -81,16 +84,28 @@ impl Steps {
             .collect();
         let (mut vertices, mut added) = (Vec::new(), vec![None; edges.len()]);
         for row in (self.order)(edges.len()) {
-            let Edge { front, back, curve } = edges[row];
+            let Edge {
+                front,
+                back,
+                curve,
+                preparation,
+            } = edges[row];
             if front == back {
                 let (t0, t1) = curve.range();
                 let t = (self.middle)(t0, t1);
                 let halves = (self.halves)(curve, t);
                 let ends = (self.ends)(front, (call.vertices + vertices.len()) as u32);
+                let preparations = (self.preparations)(preparation);
+                let [kept, new] = [0, 1].map(|half| Edge {
+                    front: ends[half].0,
+                    back: ends[half].1,
+                    curve: halves[half],
+                    preparation: preparations[half],
+                });
                 vertices.push((self.pending)(curve, halves, t));
                 added[row] = Some(edges.len() as u32);
-                edges[row] = edge(ends[0], halves[0]);
-                edges.push(edge(ends[1], halves[1]));
+                edges[row] = kept;
+                edges.push(new);
             }
         }
         let (uses, lengths) = mended_wires(call, |_, number| {
@@ -133,11 +148,6 @@ pub fn mend(number: u32, new: u32) -> [u32; 2] {
         0 => [number, 2 * new],
         _ => [2 * new + 1, number],
     }
-}
-
-/// An edge with its ends as a pair.
-fn edge((front, back): (u32, u32), curve: Curve) -> Edge {
-    Edge { front, back, curve }
 }
 
 /// Writes a result over what was lent.

@@ -3,7 +3,7 @@
 use super::tables::edge_rows;
 use super::Reference;
 use crate::port::{Split, Wires};
-use crate::records::{Curve, Edge};
+use crate::records::{Curve, Edge, Preparation};
 use crate::shell::{write_edge, EDGE_FLOATS, EDGE_NUMBERS};
 use std::collections::BTreeMap;
 use std::ops::Range;
@@ -102,7 +102,7 @@ pub fn fits(call: &Split, uses: usize, edges: usize) -> bool {
         && edges <= call.edge_floats.len() / EDGE_FLOATS
 }
 
-/// A seam from one vertex to the other, from 0 to 1.
+/// A square seam from one vertex to the other, from 0 to 1.
 pub fn seam((front, p): Place, (back, q): Place, surface: u32) -> Edge {
     let (t0, t1) = (0.0, 1.0);
     Edge {
@@ -115,6 +115,7 @@ pub fn seam((front, p): Place, (back, q): Place, surface: u32) -> Edge {
             t0,
             t1,
         },
+        preparation: Preparation::Square,
     }
 }
 

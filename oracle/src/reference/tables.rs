@@ -1,7 +1,7 @@
 //! The causes that tables and wires meet, all of them in any order.
 
 use crate::port::{Join, Nearest, Rows, Split, Wires};
-use crate::shell::{EDGE_FLOATS, EDGE_NUMBERS, VERTEX_FLOATS, VERTEX_NUMBERS};
+use crate::shell::{EDGE_FLOATS, EDGE_NUMBERS, PREPARATION, VERTEX_FLOATS, VERTEX_NUMBERS};
 
 /// The steps of the checks.
 #[derive(Clone, Copy)]
@@ -178,6 +178,7 @@ fn edge_causes(rows: &Rows) -> Vec<i32> {
         let ends = numbers[0].max(numbers[1]) as usize;
         found.extend((ends >= rows.vertices).then_some(2));
         found.extend(curve_causes(numbers[2], floats));
+        found.extend((numbers[PREPARATION] > 2).then_some(1));
     }
     found
 }

@@ -6,6 +6,7 @@ use crate::calls::Families;
 use crate::cells::Kind;
 use crate::compare::{Expected, Input};
 use crate::random::Random;
+use crate::shell::{NAMES, PREPARATION};
 
 /// Most cells in the slices of an altered call together.
 const MOST_IN_ALL: usize = 40;
@@ -16,14 +17,16 @@ const OF_EACH: usize = 5;
 /// The groups of the inputs are these and the number of the call.
 const GROUP: u64 = 200;
 
-/// A word of what a call answered and left: the answer, an out value, or the
-/// first or the last cell of a slice.
+/// A word of what a call answered and left: the answer, an out value, the
+/// first or the last cell of a slice, or the cell for the preparation of the
+/// first edge.
 #[derive(Clone, Copy)]
 enum Word {
     Answer,
     Out(usize),
     First(usize),
     Last(usize),
+    Preparation(usize),
 }
 
 /// A bit of a word.
@@ -42,6 +45,9 @@ fn bits<I: Input>() -> Vec<Bit> {
         if lending.written {
             words.push((Word::First(slice), lending.kind));
             words.push((Word::Last(slice), lending.kind));
+        }
+        if lending.written && lending.name == NAMES[2] {
+            words.push((Word::Preparation(slice), lending.kind));
         }
     }
     let both = |(word, kind)| {
@@ -70,6 +76,10 @@ impl Bit {
             Word::Answer => Some(0),
             Word::Out(place) => (expected.answer == 0).then_some(1 + place),
             Word::First(slice) => (after[slice].size() > 0).then(|| start(slice)),
+            Word::Preparation(slice) => {
+                let size = after[slice].size();
+                (size > PREPARATION).then(|| start(slice) + PREPARATION)
+            }
             Word::Last(slice) => match after[slice].size() {
                 0 | 1 => None,
                 size => Some(start(slice) + size - 1),

@@ -3,11 +3,14 @@
 //! chance seldom makes.
 
 use super::make::{draw, is_new, left_words, put_call, MOST_IN_ALL};
+use super::preparations::put_unknown;
 use crate::calls::cut_edge::CutEdge;
+use crate::calls::find_divisor::FindDivisor;
 use crate::calls::join_wires::JoinWires;
+use crate::calls::nearest_correction::NearestEnds;
 use crate::calls::split_wires::SplitWires;
 use crate::calls::Families;
-use crate::inputs::little_sizes;
+use crate::inputs::{lend, little_sizes, shell};
 use crate::model::MOST_VERTICES;
 use crate::random::Random;
 
@@ -19,16 +22,17 @@ const GROUP: u64 = 100;
 
 /// A change, and what the changed call answers. The change is made, or it is
 /// said that there is nothing to change.
-type Change<I> = (i32, fn(&mut I) -> bool);
+pub type Change<I> = (i32, fn(&mut I) -> bool);
 
 const OF_CUT: [Change<CutEdge>; 2] = [(0, cut_at_negative_zero), (1, wrapping_cuts)];
 
-const OF_JOIN: [Change<JoinWires>; 5] = [
+const OF_JOIN: [Change<JoinWires>; 6] = [
     (0, |input| new_wires(input, 62)),
     (1, |input| new_wires(input, 63)),
     (0, |input| vertices(&mut input.new.tables.vertices, 0)),
     (1, |input| vertices(&mut input.new.tables.vertices, 1)),
     (1, wrapping_open_wires),
+    (1, wrapping_new_wires),
 ];
 
 const OF_SPLIT: [Change<SplitWires>; 13] = [
@@ -47,18 +51,32 @@ const OF_SPLIT: [Change<SplitWires>; 13] = [
     (5, no_range_without_room),
 ];
 
-/// Adds changed calls of the cut, the join and the split.
+/// Adds changed calls of the cut, the join and the split, and those of all
+/// calls over edges with an unknown preparation.
 pub fn put_changed_calls(words: &mut Vec<u64>) {
-    put_changed(words, &OF_CUT, |random| {
-        let sizes = little_sizes(random);
-        CutEdge::made(random, sizes)
-    });
+    put_changed(words, &OF_CUT, cut);
     put_changed(words, &OF_JOIN, |random| JoinWires::made(random, true));
     put_changed(words, &OF_SPLIT, |random| SplitWires::made(random, true));
+    put_unknown(words, |random| {
+        let sizes = little_sizes(random);
+        let shell = shell(random, &sizes);
+        lend(random, &shell)
+    });
+    put_unknown(words, |random| NearestEnds::made(random, true));
+    put_unknown(words, |random| FindDivisor::made(random, true));
+    put_unknown(words, cut);
+    put_unknown(words, |random| JoinWires::made(random, true));
+    put_unknown(words, |random| SplitWires::made(random, true));
+}
+
+/// A small shell with cuts.
+fn cut(random: &mut Random) -> CutEdge {
+    let sizes = little_sizes(random);
+    CutEdge::made(random, sizes)
 }
 
 /// Adds calls that are made, found to be done, and changed.
-fn put_changed<I: Families>(
+pub fn put_changed<I: Families>(
     words: &mut Vec<u64>,
     changes: &[Change<I>],
     made: fn(&mut Random) -> I,
@@ -121,6 +139,17 @@ fn new_wires(input: &mut JoinWires, count: usize) -> bool {
 fn wrapping_open_wires(input: &mut JoinWires) -> bool {
     input.first_count = input.first_count.wrapping_sub(1 << 63);
     input.second_count = input.second_count.wrapping_add(1 << 63);
+    true
+}
+
+/// Both lengths of two new wires together are 0, where that is taken in 32
+/// bits.
+fn wrapping_new_wires(input: &mut JoinWires) -> bool {
+    let new = &mut input.new;
+    if new.wires != 2 || new.lengths[0] == 0 {
+        return false;
+    }
+    new.lengths[1] = new.lengths[0].wrapping_neg();
     true
 }
 

@@ -2,16 +2,18 @@
 
 use super::{behind, step, Mutant};
 use oracle::port::Cut;
+use oracle::records::Preparation::{DoubleBevel, SingleBevel, Square};
 use oracle::records::Vertex;
 use oracle::reference::cut::causes;
 use oracle::reference::pass::fits;
 use oracle::reference::tables::have_room;
-use oracle::shell::{Lent, EDGE_FLOATS, EDGE_NUMBERS, VERTEX_FLOATS, VERTEX_NUMBERS};
+use oracle::shell::{Lent, EDGE_FLOATS, EDGE_NUMBERS, PREPARATION, VERTEX_FLOATS, VERTEX_NUMBERS};
 
 /// All wrong cuts, save those with wrong checks of tables and wires.
 pub fn lists() -> Vec<Vec<Mutant>> {
     vec![
         wrong_pieces(),
+        wrong_preparations(),
         wrong_points(),
         wrong_mending(),
         wrong_at_65(),
@@ -69,6 +71,50 @@ pub fn wrong_pieces() -> Vec<Mutant> {
         }),
         step("the new edge ends where the old began", |r| {
             r.cut.ends = |(a, _), new| [(a, new), (new, a)]
+        }),
+    ]
+}
+
+/// Pieces with a wrong preparation.
+pub fn wrong_preparations() -> Vec<Mutant> {
+    vec![
+        step("the second piece square", |r| {
+            r.cut.preparations = |old| [old, Square]
+        }),
+        step("the first piece square", |r| {
+            r.cut.preparations = |old| [Square, old]
+        }),
+        step("a double bevel gives single ones", |r| {
+            r.cut.preparations = |old| match old {
+                DoubleBevel => [SingleBevel; 2],
+                _ => [old; 2],
+            }
+        }),
+        step("a single bevel gives double ones", |r| {
+            r.cut.preparations = |old| match old {
+                SingleBevel => [DoubleBevel; 2],
+                _ => [old; 2],
+            }
+        }),
+        after(
+            "the first edge's for the new one",
+            |answer, before, call| {
+                if (answer, call.cut_count) == (0, 1) {
+                    let cell = before.tables.edges * EDGE_NUMBERS + PREPARATION;
+                    call.pass.edge_numbers[cell] = before.tables.edge_numbers[PREPARATION];
+                }
+                answer
+            },
+        ),
+        after("edges that are not cut square", |answer, before, call| {
+            let edges = if answer == 0 { before.tables.edges } else { 0 };
+            let rows = call.pass.edge_numbers.chunks_mut(EDGE_NUMBERS);
+            for (number, row) in rows.take(edges).enumerate() {
+                if number != call.edge as usize {
+                    row[PREPARATION] = 0;
+                }
+            }
+            answer
         }),
     ]
 }
@@ -528,6 +574,16 @@ pub fn wrong_cut_cells() -> Vec<Mutant> {
             |answer, before, call| {
                 if (answer, call.cut_count) == (0, 1) {
                     let cell = before.tables.edges * EDGE_NUMBERS + 3;
+                    call.pass.edge_numbers[cell] = before.tables.edge_numbers[cell];
+                }
+                answer
+            },
+        ),
+        after(
+            "the new edge's preparation not written",
+            |answer, before, call| {
+                if (answer, call.cut_count) == (0, 1) {
+                    let cell = before.tables.edges * EDGE_NUMBERS + PREPARATION;
                     call.pass.edge_numbers[cell] = before.tables.edge_numbers[cell];
                 }
                 answer

@@ -4,6 +4,7 @@ pub mod cut;
 pub mod join;
 pub mod near;
 pub mod pass;
+pub mod preparations;
 pub mod search;
 pub mod split;
 
@@ -18,18 +19,24 @@ pub type Mutant = (&'static str, Box<dyn Port>);
 /// The wrong ports of a call.
 pub fn lists(call: &str) -> Vec<Vec<Mutant>> {
     match call {
-        "split_closed_edges" => pass::lists(),
+        "split_closed_edges" => of_edges(pass::lists()),
         "get_mindiff" => vec![near::wrong_unwrapping(), near::wrong_numbers()],
         "nearest_copy" => vec![near::wrong_copies(), near::wrong_copying()],
         "boundary_type" => vec![near::wrong_kinds()],
         "sort_wires" => vec![near::wrong_sorting(), near::wrong_sorting_calls()],
-        "nearest_correction" => search::lists_of_nearest(),
-        "find_non_simple_wire_divisor" => search::lists_of_search(),
-        "cut_edge_by_intersections" => cut::lists(),
-        "connect_open_boundaries" => join::lists(),
-        "split_boundaries_by_divisor" => split::lists(),
+        "nearest_correction" => of_edges(search::lists_of_nearest()),
+        "find_non_simple_wire_divisor" => of_edges(search::lists_of_search()),
+        "cut_edge_by_intersections" => of_edges(cut::lists()),
+        "connect_open_boundaries" => of_edges(join::lists()),
+        "split_boundaries_by_divisor" => of_edges(split::lists()),
         _ => panic!("no call of the name {call}"),
     }
+}
+
+/// The wrong ports of a call that is lent edges: its own, and wrong checks of
+/// preparations.
+fn of_edges(own: Vec<Vec<Mutant>>) -> Vec<Vec<Mutant>> {
+    own.into_iter().chain(preparations::lists()).collect()
 }
 
 /// The reference with some steps replaced.

@@ -2,16 +2,21 @@
 
 use super::{behind, step, Mutant};
 use oracle::port::{Pass, Rows, Wires};
+use oracle::records::Preparation::{DoubleBevel, SingleBevel, Square};
 use oracle::records::Vertex;
 use oracle::reference::pass::fits;
 use oracle::reference::tables::{causes, have_room};
-use oracle::shell::{Lent, Tables, EDGE_FLOATS, EDGE_NUMBERS, VERTEX_FLOATS, VERTEX_NUMBERS};
+use oracle::shell::{Lent, Tables};
+use oracle::shell::{EDGE_FLOATS, EDGE_NUMBERS, PREPARATION, VERTEX_FLOATS, VERTEX_NUMBERS};
+use std::ops::Range;
 
 /// All wrong passes.
 pub fn lists() -> Vec<Vec<Mutant>> {
     vec![
         wrong_results(),
         wrong_vertices(),
+        wrong_preparations(),
+        wrong_cells_of_preparations(),
         wrong_at_65(),
         wrong_middles(),
         wrong_refusals(),
@@ -113,6 +118,66 @@ pub fn wrong_vertices() -> Vec<Mutant> {
         step("no edge cut", |r| r.pass.order = |_| Vec::new()),
         step("only the first edges cut", |r| {
             r.pass.order = |edges| (0..edges.min(2)).collect()
+        }),
+    ]
+}
+
+/// Halves with a wrong preparation.
+pub fn wrong_preparations() -> Vec<Mutant> {
+    vec![
+        step("the second half square", |r| {
+            r.pass.preparations = |old| [old, Square]
+        }),
+        step("the first half square", |r| {
+            r.pass.preparations = |old| [Square, old]
+        }),
+        step("a double bevel gives single ones", |r| {
+            r.pass.preparations = |old| match old {
+                DoubleBevel => [SingleBevel; 2],
+                _ => [old; 2],
+            }
+        }),
+        step("a single bevel gives double ones", |r| {
+            r.pass.preparations = |old| match old {
+                SingleBevel => [DoubleBevel; 2],
+                _ => [old; 2],
+            }
+        }),
+    ]
+}
+
+/// The rows of the new edges: only a call that is done has told how many edges
+/// there are.
+fn new_rows(answer: i32, before: &Lent, call: &Pass) -> Range<usize> {
+    let old = before.tables.edges;
+    old..if answer == 0 { call.out[1] } else { old }
+}
+
+/// Preparations that are not written, or those of other edges.
+pub fn wrong_cells_of_preparations() -> Vec<Mutant> {
+    vec![
+        after("a new preparation not written", |answer, before, call| {
+            for row in new_rows(answer, before, call) {
+                let cell = row * EDGE_NUMBERS + PREPARATION;
+                call.edge_numbers[cell] = before.tables.edge_numbers[cell];
+            }
+            answer
+        }),
+        after("the first edge's for a new one", |answer, before, call| {
+            for row in new_rows(answer, before, call) {
+                let first = before.tables.edge_numbers[PREPARATION];
+                call.edge_numbers[row * EDGE_NUMBERS + PREPARATION] = first;
+            }
+            answer
+        }),
+        after("edges that are not cut square", |answer, before, call| {
+            let edges = if answer == 0 { before.tables.edges } else { 0 };
+            for row in call.edge_numbers.chunks_mut(EDGE_NUMBERS).take(edges) {
+                if (row[1] as usize) < before.tables.vertices {
+                    row[PREPARATION] = 0;
+                }
+            }
+            answer
         }),
     ]
 }
@@ -331,9 +396,7 @@ pub fn wrong_ends() -> Vec<Mutant> {
             answer
         }),
         after("uv cells of a new span cleared", |answer, before, call| {
-            // Only a call that is done has told how many edges there are.
-            let edges = if answer == 0 { call.out[1] } else { 0 };
-            for row in before.tables.edges..edges {
+            for row in new_rows(answer, before, call) {
                 if call.edge_numbers[row * EDGE_NUMBERS + 2] == 0 {
                     call.edge_floats[row * EDGE_FLOATS..][..4].fill(0);
                 }

@@ -4,9 +4,11 @@
 use std::error::Error;
 use std::f64::consts::{PI, TAU};
 
+use kaugrenna::lent::{EDGE_FLOATS, EDGE_NUMBERS, SPAN};
 use kaugrenna::{connect_open_boundaries, find_non_simple_wire_divisor, nearest_copy};
 use kaugrenna::{nearest_correction, sort_wires, split_boundaries_by_divisor};
-use kaugrenna::{split_closed_edges, Divisor, OwnedTables, OwnedWires, Room, Stretch, Wires};
+use kaugrenna::{split_closed_edges, Divisor, OwnedTables, OwnedWires};
+use kaugrenna::{Preparation, Room, Stretch, Wires};
 
 /// Once round the pipe.
 pub const TURN: f64 = TAU;
@@ -42,15 +44,22 @@ fn give_vertices(tables: &mut OwnedTables, count: usize) {
         .collect();
 }
 
-/// The pipe as a drawing office sends it: two rims, 0 = (0, 0) and 1 = (1, 1),
-/// spans of curves 0 and 1, with the wires 0+ and 1-.
+/// The numbers of a rim: the closed edge at the vertex of its number, a span of
+/// the curve of its number, to be welded with a single bevel.
+fn rim(number: u32) -> [u32; EDGE_NUMBERS] {
+    let bevel = Preparation::SingleBevel.into();
+    [number, number, SPAN, number, bevel]
+}
+
+/// The pipe as a drawing office sends it: the rims 0 and 1, with the wires 0+
+/// and 1-, and room for their second halves and for two seams.
 fn burner_pipe() -> Face {
     let mut tables = OwnedTables::default();
     give_vertices(&mut tables, 2);
     tables.edges = 2;
-    tables.edge_numbers = vec![0; 24];
-    tables.edge_numbers[4..8].copy_from_slice(&[1, 1, 0, 1]);
-    tables.edge_floats = vec![0.0; 36];
+    tables.edge_numbers = [0, 1].map(rim).concat();
+    tables.edge_numbers.resize(6 * EDGE_NUMBERS, 0);
+    tables.edge_floats = vec![0.0; 6 * EDGE_FLOATS];
     tables.edge_floats[5] = TURN;
     tables.edge_floats[11] = TURN;
     let mut uses = vec![0; 8];

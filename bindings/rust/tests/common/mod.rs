@@ -24,7 +24,7 @@ pub fn bits(floats: &[f64]) -> Vec<u64> {
     floats.iter().map(|float| float.to_bits()).collect()
 }
 
-/// Two tables and wires. Each edge is span 7 from 0 to 8.
+/// Two tables and wires. Each edge is span 7 from 0 to 8, and square.
 #[derive(Clone)]
 pub struct Shell {
     pub tables: OwnedTables,
@@ -50,7 +50,7 @@ impl Shell {
         }
         for (row, [front, back]) in ends.iter().enumerate() {
             let numbers = &mut tables.edge_numbers[row * EDGE_NUMBERS..][..EDGE_NUMBERS];
-            numbers.copy_from_slice(&[*front, *back, 0, 7]);
+            numbers.copy_from_slice(&[*front, *back, 0, 7, 0]);
             tables.edge_floats[row * EDGE_FLOATS + 4..][..2].copy_from_slice(&[0.0, 8.0]);
         }
         let mut wires = OwnedWires {
@@ -68,6 +68,11 @@ impl Shell {
         let points = [[1.0, 0.0], [-1.0, 0.0], [1.0, 4.0], [-1.0, 4.0]];
         let points = points.map(|[x, z]| [x, 0.0, z]);
         Shell::new(&points, &PIPE, wires, room)
+    }
+
+    /// Gives the edge this preparation, or what is none.
+    pub fn prepare(&mut self, edge: usize, preparation: u32) {
+        self.tables.edge_numbers[edge * EDGE_NUMBERS + 4] = preparation;
     }
 
     /// Tables and wires, to be written.

@@ -36,12 +36,13 @@ abbrev pub from_on : Curve → Float → Curve
 from_on (Span n a b) t = Span n t b
 from_on (Seam n p q a b) t = Seam n p q t b
 
--- `cut_edge`: the edge (a, b) cut at t by the vertex n is (a, n), and (n, b) is new
+-- `cut_edge`: the edge (a, b) cut at t by the vertex n is (a, n), and (n, b) is new. Document 02, A.5: "Every call that cuts an edge gives each piece
+-- the preparation of the old one."
 unfoldable pub halves_of : Edge → Float → ℕ → Halves
 halves_of e t n =
     record {
-      old = record { front = e.front; back = n; curve = up_to e.curve t };
-      new = record { front = n; back = e.back; curve = from_on e.curve t };
+      old = record { front = e.front; back = n; curve = up_to e.curve t; preparation = e.preparation };
+      new = record { front = n; back = e.back; curve = from_on e.curve t; preparation = e.preparation };
     }
 
 -- the new vertex: "pending: the curve as it was before the cut, with the parameter"

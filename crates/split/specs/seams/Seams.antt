@@ -3,6 +3,7 @@ use Rattle.std.specs.Prelude.{Bool, false, ◌||◌, List, [], ◌∷◌, ℕ, �
 use Rattle.std.specs.Float.{nan}
 use Rattle.compress.specs.Constants.{zero64, one64}
 use Rattle.compress.specs.declared.Curve.TheVariants.{Seam}
+use Rattle.compress.specs.declared.Preparation.TheVariants.{Square}
 use Rattle.compress.specs.declared.Edge.{Edge}
 use Rattle.split.specs.declared.seams.Stop.{Stop}
 
@@ -17,10 +18,10 @@ abbrev pub stop_at : List ℕ → List Float → ℕ → Stop
 stop_at ds fs i =
     record { vertex = get_or ds i 0; point = record { u = get_or fs (i * floats_per_stop) nan; v = get_or fs (i * floats_per_stop + 1) nan } }
 
--- "a seam from the first's uv point to the second's on that surface"; its t0, t1 "begin as 0 and 1"
+-- "a seam from the first's uv point to the second's on that surface"; its t0, t1 "begin as 0 and 1". Document 02, A.5: "A new seam edge is square".
 unfoldable pub seam_of : ℕ → Stop → Stop → Edge
 seam_of surface a b =
-    record { front = a.vertex; back = b.vertex; curve = Seam surface a.point b.point zero64 one64 }
+    record { front = a.vertex; back = b.vertex; curve = Seam surface a.point b.point zero64 one64; preparation = Square }
 
 -- "Vertices pair off (first with second, third with fourth; an odd last one makes no edge); each pair is a new edge, appended in that order"
 unfoldable pub seams_of : ℕ → List Stop → List Edge

@@ -7,12 +7,12 @@ use Prim.Native.Nat.{ℕ, ◌+◌, ◌-◌, ◌*◌, ◌≤◌, ◌<◌}
 use native.Mathlib.Omega.{arith}
 use borrow.Author.Tests.{ltb-true, ltb-false}
 use lib.Dec.{ltb}
-use lib.ListN.{length}
+use lib.ListN.{length, get_or}
 use lib.Ieee.{Float}
 use Rattle.compress.specs.declared.Edge.{Edge}
 use Rattle.compress.specs.Records.{closed}
 use Rattle.compress.specs.Layout.{Layout, put, store_from, rows}
-use Rattle.compress.specs.Rows.{numbers_per_edge, numbers_per_vertex, floats_per_vertex, edge_kind_at, edge_at, vertex_at, edge_number_layout, edge_float_layout, vertex_number_layout, vertex_float_layout}
+use Rattle.compress.specs.Rows.{edge_kind, edge_preparation, numbers_per_edge, numbers_per_vertex, floats_per_vertex, KnownEdge, edge_at, vertex_at, edge_number_layout, edge_float_layout, vertex_number_layout, vertex_float_layout}
 use Rattle.compress.proofs.Layouts.{store_none, store_append, put_other, rows_none, rows_first, rows_agree, length_rows}
 use Rattle.compress.proofs.Rows.{vertex_same, vertex_other, edge_other, edge_numbers_fit, edge_floats_fit, edge_numbers_stand, edge_floats_stand}
 use Rattle.checks.specs.Causes.{curve_cause, vertex_cause}
@@ -33,16 +33,19 @@ module _ (b : Bool) (n i m : ℕ) (e : Edge) (en : List ℕ) (ef : List Float) w
           ∙ edge_other en ef i h₀ j (λ q. omega arith)
       by false = refl
 
-  pub kind_past : (j : ℕ) → i < j → j < m → edge_kind_at (cut_rows edge_number_layout b n i m e en) j ≡ edge_kind_at en j
+  number_past : (j k : ℕ) → i < j → j < m → k < numbers_per_edge → get_or (cut_rows edge_number_layout b n i m e en) (j * numbers_per_edge + k) 0 ≡ get_or en (j * numbers_per_edge + k) 0
   unfolding edge_number_layout
-  kind_past j lo hi = by b
+  number_past j k lo hi h = by b
     where
-      by : (c : Bool) → edge_kind_at (cut_rows edge_number_layout c n i m e en) j ≡ edge_kind_at en j
+      by : (c : Bool) → get_or (cut_rows edge_number_layout c n i m e en) (j * numbers_per_edge + k) 0 ≡ get_or en (j * numbers_per_edge + k) 0
       by true =
           let h₀ = (halves_of e (middle_of e.curve) n).old in
-          put_other edge_number_layout edge_numbers_fit 0 (put edge_number_layout en i h₀) m j 2 (j * numbers_per_edge + 2) (halves_of e (middle_of e.curve) n).new (λ q. omega arith) refl (omega arith)
-          ∙ put_other edge_number_layout edge_numbers_fit 0 en i j 2 (j * numbers_per_edge + 2) h₀ (λ q. omega arith) refl (omega arith)
+          put_other edge_number_layout edge_numbers_fit 0 (put edge_number_layout en i h₀) m j k (j * numbers_per_edge + k) (halves_of e (middle_of e.curve) n).new (λ q. omega arith) refl h
+          ∙ put_other edge_number_layout edge_numbers_fit 0 en i j k (j * numbers_per_edge + k) h₀ (λ q. omega arith) refl h
       by false = refl
+
+  pub known_past : (j : ℕ) → i < j → j < m → KnownEdge en j → KnownEdge (cut_rows edge_number_layout b n i m e en) j
+  known_past j lo hi h = rw (number_past j edge_kind lo hi (omega arith), number_past j edge_preparation lo hi (omega arith)) h
 
 -- ---- the vertices up to row n, and the new one where there is one, have no cause
 pub vertices_pass : (b : Bool) (n : ℕ) (e : Edge) (vn : List ℕ) (vf : List Float)
@@ -71,7 +74,7 @@ pub record Adding (n₀ count : ℕ) (vn₀ : List ℕ) (vf₀ : List Float) (en
   pub same_vf : length vf ≡ length vf₀
   pub same_en : length en ≡ length en₀
   pub same_ef : length ef ≡ length ef₀
-  pub kinds : (j : ℕ) → i ≤ j → j < count → edge_kind_at en j < 2
+  pub known : (j : ℕ) → i ≤ j → j < count → KnownEdge en j
   pub vertices : VerticesPass vn vf n
   pub curves : (j : ℕ) → i ≤ j → j < count → curve_cause (edge_at en ef j).curve ≡ 0
   pub to_vn : store_from vertex_number_layout vn n (new_vertices (rows (edge_at en ef) i (count - i))) ≡ store_from vertex_number_layout vn₀ n₀ (new_vertices (rows (edge_at en₀ ef₀) 0 count))
@@ -100,7 +103,7 @@ module _ (n₀ count : ℕ) (vn₀ : List ℕ) (vf₀ : List Float) (en₀ : Lis
         same_vf = refl;
         same_en = refl;
         same_ef = refl;
-        kinds = λ j lo hi. a.kinds j hi;
+        known = λ j lo hi. a.known j hi;
         vertices = a.vertices;
         curves = λ j lo hi. a.curves j hi;
         to_vn = rw p;
@@ -154,13 +157,13 @@ module _ (n₀ count : ℕ) (vn₀ : List ℕ) (vf₀ : List Float) (en₀ : Lis
           same_vf = l₂ ∙ M.same_vf;
           same_en = l₃ ∙ M.same_en;
           same_ef = l₄ ∙ M.same_ef;
-          kinds = λ j lo hi. rw (e₃, kind_past b n i m e en ef j (omega arith) (omega (arith, M.m_ge))) (M.kinds j (omega arith) hi);
+          known = λ j lo hi. rw e₃ (known_past b n i m e en ef j (omega arith) (omega (arith, M.m_ge)) (M.known j (omega arith) hi));
           vertices = rw (e₁, e₂, en_is) (vertices_pass b n e vn vf place_for (λ p. accepted p (M.curves i (omega arith) lt)) M.vertices);
           curves = λ j lo hi. rw (e₃, e₄, edge_past b n i m e en ef j (omega arith) (omega (arith, M.m_ge))) (M.curves j (omega arith) hi);
           to_vn = rw (r, e₁, en_is) (vertices_turn vertex_number_layout b vn n e es q ∙ rw first at M.to_vn);
           to_vf = rw (r, e₂, en_is) (vertices_turn vertex_float_layout b vf n e es q ∙ rw first at M.to_vf);
           to_en = rw (r, e₃, en_is, em_is)
-              (edges_turn edge_number_layout edge_numbers_fit b en n i m e es q room (edge_numbers_stand en ef i (M.kinds i (omega arith) lt)) ∙ rw first at M.to_en);
+              (edges_turn edge_number_layout edge_numbers_fit b en n i m e es q room (edge_numbers_stand en ef i (M.known i (omega arith) lt)) ∙ rw first at M.to_en);
           to_ef = rw (r, e₄, en_is, em_is)
               (edges_turn edge_float_layout edge_floats_fit b ef n i m e es q room (edge_floats_stand en ef i) ∙ rw first at M.to_ef);
         }

@@ -4,7 +4,7 @@ use Rattle.compress.specs.declared.Edge.{Edge}
 use Rattle.compress.specs.declared.Vertex.{Vertex}
 use Rattle.compress.specs.Records.{closed}
 use Rattle.compress.specs.Layout.{Layout, put, store, store_from, rows}
-use Rattle.compress.specs.Rows.{numbers_per_edge, floats_per_edge, numbers_per_vertex, floats_per_vertex, edge_kind_at, edge_at, vertex_at, edge_number_layout, edge_float_layout, vertex_number_layout, vertex_float_layout}
+use Rattle.compress.specs.Rows.{numbers_per_edge, floats_per_edge, numbers_per_vertex, floats_per_vertex, KnownEdge, edge_at, vertex_at, edge_number_layout, edge_float_layout, vertex_number_layout, vertex_float_layout}
 use Rattle.checks.specs.Causes.{curve_cause, vertex_cause}
 use Rattle.cutting.specs.cut_edge.Cut.{middle_of, halves_of, pending_of}
 use Rattle.split_closed_edges.specs.add_edges.Add.{next, kept_edges, new_edges, new_vertices, added_to}
@@ -36,14 +36,14 @@ pub record PlaceFor (n m : ℕ) (vn : List ℕ) (vf : List Float) (en : List ℕ
 abbrev pub VerticesPass : List ℕ → List Float → ℕ → Type 0
 VerticesPass vn vf n = (k : ℕ) → k < n → vertex_cause (vertex_at vn vf k) ≡ 0
 
--- `add_edges` has a row for each vertex and each edge of its result, the kinds of its edges are known ones, and no vertex and no curve has a cause
+-- `add_edges` has a row for each vertex and each edge of its result, the kinds and preparations of its edges are known ones, and no vertex and no curve has a cause
 pub record Addable (n count : ℕ) (vn : List ℕ) (vf : List Float) (en : List ℕ) (ef : List Float) : Type 0 where
   pub below : n + closed_count (rows (edge_at en ef) 0 count) ≤ 4096
   pub vertex_numbers : (n + closed_count (rows (edge_at en ef) 0 count)) * numbers_per_vertex ≤ length vn
   pub vertex_floats : (n + closed_count (rows (edge_at en ef) 0 count)) * floats_per_vertex ≤ length vf
   pub edge_numbers : (count + closed_count (rows (edge_at en ef) 0 count)) * numbers_per_edge ≤ length en
   pub edge_floats : (count + closed_count (rows (edge_at en ef) 0 count)) * floats_per_edge ≤ length ef
-  pub kinds : (j : ℕ) → j < count → edge_kind_at en j < 2
+  pub known : (j : ℕ) → j < count → KnownEdge en j
   pub vertices : VerticesPass vn vf n
   pub curves : (j : ℕ) → j < count → curve_cause (edge_at en ef j).curve ≡ 0
 

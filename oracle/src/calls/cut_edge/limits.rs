@@ -9,14 +9,19 @@ use crate::limits::ways::{ample, cells, edge, held, k1_cells, sample, span};
 use crate::limits::ways::{edge_float, edge_number, vertex_number};
 use crate::limits::{self, ways};
 use crate::random::Random;
-use crate::records::{wire, Edge, Shell, Vertex};
-use crate::shell::{needed, Lent};
+use crate::records::{wire, Edge, Preparation, Shell, Vertex};
+use crate::shell::{needed, Lent, PREPARATION};
 
 /// All cases.
 pub fn cases() -> Vec<Case<CutEdge>> {
     [
         results(),
-        vec![cell_by_cell()],
+        preparations(),
+        vec![
+            cell_by_cell("a cut cell by cell", 0),
+            cell_by_cell("a single bevel cut cell by cell", 1),
+            cell_by_cell("a double bevel cut cell by cell", 2),
+        ],
         parameters(),
         nothing_to_cut(),
         full_tables(),
@@ -86,8 +91,11 @@ fn spoilt(change: impl Fn(&mut CutEdge)) -> CutEdge {
 fn sample_after() -> Shell {
     let mut after = sample("").input.read();
     after.vertices.push(Vertex::Given(7.0, 8.0, 9.0));
-    after.edges[0] = edge(0, 3, span(9, 0.0, 0.25));
-    after.edges.push(edge(3, 1, span(9, 0.25, 1.0)));
+    let piece = |front: u32, back: u32, t0: f64, t1: f64| {
+        edge(front, back, span(9, t0, t1)).prepared(Preparation::SingleBevel)
+    };
+    after.edges[0] = piece(0, 3, 0.0, 0.25);
+    after.edges.push(piece(3, 1, 0.25, 1.0));
     after.wires[0] = wire("0+ 3+ 1+ 3- 0-");
     after
 }
@@ -140,8 +148,11 @@ fn the_seam() -> Case<CutEdge> {
     let curve = before.edges[1].curve;
     let mut after = before.clone();
     after.vertices.push(Vertex::Given(-0.0, 1.0e15, -1.0e15));
-    after.edges[1] = edge(1, 3, curve.over(0.0, 0.75));
-    after.edges.push(edge(3, 1, curve.over(0.75, 1.0)));
+    let piece = |front: u32, back: u32, t0: f64, t1: f64| {
+        edge(front, back, curve.over(t0, t1)).prepared(Preparation::DoubleBevel)
+    };
+    after.edges[1] = piece(1, 3, 0.0, 0.75);
+    after.edges.push(piece(3, 1, 0.75, 1.0));
     after.wires = ["0+ 1+ 3+ 0-", "", "3- 1-"].map(wire).to_vec();
     let cut = [0.75, -0.0, 1.0e15, -1.0e15];
     done("a closed seam", &before, (1, cut), &after)
@@ -167,9 +178,41 @@ fn the_last_edge() -> Case<CutEdge> {
     done("the last edge", &before, (2, [t, x, y, z]), &after)
 }
 
-/// K1's edge cut at 3 with each cell written out, in buffers of just the
-/// result's length. The cells that hold 77 belong to no record and are kept.
-fn cell_by_cell() -> Case<CutEdge> {
+/// A line of each preparation is cut beside lines of the two others: both
+/// pieces have its preparation, and the others keep theirs. And a cell that is
+/// no input.
+fn preparations() -> Vec<Case<CutEdge>> {
+    let [t, x, y, z] = AT_3;
+    let line = |row: usize, front: u32, back: u32, t0: f64, t1: f64| {
+        let curve = span(row as u32, t0, t1);
+        edge(front, back, curve).prepared(Preparation::ALL[row])
+    };
+    let before = [0, 1, 2].map(|row| line(row, 0, 1, 0.0, 8.0));
+    let wire = ["0+ 1- 2+ 0- 1+ 2-"];
+    let cut = |name, row: usize, mended: &str| {
+        let mut after = before.to_vec();
+        after[row] = line(row, 0, 2, 0.0, t);
+        after.push(line(row, 2, 1, t, 8.0));
+        let before = ways::shell(&[ORIGIN; 2], &before, &wire);
+        let vertices = [ORIGIN, ORIGIN, Vertex::Given(x, y, z)];
+        let after = ways::shell(&vertices, &after, &[mended]);
+        done(name, &before, (row as u32, AT_3), &after)
+    };
+    vec![
+        cut("a square line beside bevels", 0, "0+ 3+ 1- 2+ 3- 0- 1+ 2-"),
+        cut("a single bevel beside others", 1, "0+ 3- 1- 2+ 0- 1+ 3+ 2-"),
+        cut("a double bevel beside others", 2, "0+ 1- 2+ 3+ 0- 1+ 3- 2-"),
+        // Row 3 becomes the new edge; the cells behind it are kept.
+        unharmed("preparation 3 behind the edges", |c| {
+            edge_number(4, PREPARATION, 3)(&mut c.lent)
+        }),
+    ]
+}
+
+/// K1's edge, with a preparation, cut at 3 with each cell written out, in
+/// buffers of just the result's length. The cells that hold 77 belong to no
+/// record and are kept.
+fn cell_by_cell(name: &'static str, preparation: u32) -> Case<CutEdge> {
     let k = 77.0;
     let after = cells(
         (
@@ -177,14 +220,14 @@ fn cell_by_cell() -> Case<CutEdge> {
             [0.0, 0.0, 0.0, k, k, k, k, 0.5, 0.25, -1.0, k, k, k, k],
         ),
         (
-            [0, 1, 0, 7, 1, 0, 0, 7],
+            [0, 1, 0, 7, preparation, 1, 0, 0, 7, preparation],
             [k, k, k, k, 0.0, 3.0, k, k, k, k, 3.0, 8.0],
         ),
         ([0, 2], 2),
     );
     Case {
-        name: "a cut cell by cell",
-        input: CutEdge::over(k1_cells(), 0, &[AT_3]),
+        name,
+        input: CutEdge::over(k1_cells(preparation), 0, &[AT_3]),
         expected: Expected {
             answer: 0,
             out: vec![2, 2, 2],
@@ -245,6 +288,10 @@ fn nothing_to_cut() -> Vec<Case<CutEdge>> {
         no("no cut, a kind unknown", 1, |c| {
             c.cut_count = 0;
             edge_number(2, 2, 2)(&mut c.lent);
+        }),
+        no("no cut, a preparation unknown", 1, |c| {
+            c.cut_count = 0;
+            edge_number(2, PREPARATION, 3)(&mut c.lent);
         }),
         no("no cut, t0 above t1", 5, |c| {
             c.cut_count = 0;

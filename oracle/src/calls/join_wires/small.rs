@@ -1,4 +1,5 @@
-//! Small joins over four edges between four vertices.
+//! Small joins over four edges between four vertices, with the preparations in
+//! turn.
 //!
 //! First every list of up to two new wires of up to two uses, with all pairs
 //! of vertices and six pairs of open wires, each of these over one of the edge
@@ -12,7 +13,7 @@
 //! cell too short in some, in turn as well.
 
 use super::JoinWires;
-use crate::calls::tables::{edge_table, spans};
+use crate::calls::tables::{edge_table, in_turn, spans};
 use crate::records::wire;
 use crate::shell::Tables;
 
@@ -54,7 +55,7 @@ const CHOICES: usize = 6;
 /// Shows every small input to the visitor, until it answers false.
 pub fn each(visit: &mut dyn FnMut(&JoinWires) -> bool) {
     let mut small = Small {
-        tables: TABLES.map(|ends| edge_table(4, &spans(&ends))),
+        tables: TABLES.map(|ends| edge_table(4, &in_turn(&spans(&ends), 0))),
         new: NEW.map(|wires| wires.iter().map(|notation| wire(notation)).collect()),
         turn: 0,
         visit,

@@ -8,8 +8,8 @@ mod room;
 use super::{Place, SplitWires};
 use crate::calls::tables::{sample_edges, spans, tables, POINTS, SPOILS};
 use crate::compare::Case;
-use crate::records::{wires, Curve, Edge};
-use crate::shell::Tables;
+use crate::records::{wires, Curve, Edge, Preparation};
+use crate::shell::{Tables, EDGE_NUMBERS};
 
 /// All cases.
 pub fn cases() -> Vec<Case<SplitWires>> {
@@ -26,7 +26,12 @@ pub fn cases() -> Vec<Case<SplitWires>> {
         stuck(),
         crowds(),
         first_reached(),
-        vec![cell_by_cell()],
+        vec![
+            cell_by_cell("K10 cell by cell", [0; 5]),
+            cell_by_cell("a square seam beside single bevels", [1; 5]),
+            cell_by_cell("a square seam beside double bevels", [2; 5]),
+            cell_by_cell("a square seam among all preparations", [2, 1, 0, 1, 2]),
+        ],
         floats(),
         lists(),
         arrays::cases(),
@@ -80,8 +85,8 @@ const TO_AND_FRO: [(u32, u32); 6] = [(0, 1), (0, 1), (0, 1), (1, 0), (1, 0), (1,
 /// K12's wire.
 const K12: &str = "0+ 1+ 2+ 3+ 4+ 5+";
 
-/// An input that is split into these wires. Each pair is a seam from its first
-/// point to its second, from 0 to 1.
+/// An input that is split into these wires. Each pair is a square seam from its
+/// first point to its second, from 0 to 1.
 fn split_into(name: &'static str, input: SplitWires, after: &[Vec<u32>]) -> Case<SplitWires> {
     let places = input.places();
     let edge = |pair: &[Place]| Edge {
@@ -94,6 +99,7 @@ fn split_into(name: &'static str, input: SplitWires, after: &[Vec<u32>]) -> Case
             t0: 0.0,
             t1: 1.0,
         },
+        preparation: Preparation::Square,
     };
     let new: Vec<Edge> = places.chunks_exact(2).map(edge).collect();
     let expected = input.done(&new, after);
@@ -412,21 +418,24 @@ fn first_reached() -> Vec<Case<SplitWires>> {
     ]
 }
 
-/// K10 with each cell written out, in buffers of just the result's length. The
-/// cells that hold 77 are no input.
-fn cell_by_cell() -> Case<SplitWires> {
+/// K10 with each cell written out, in buffers of just the result's length, and
+/// with edges of these preparations. The cells that hold 77 are no input.
+fn cell_by_cell(name: &'static str, preparations: [u32; 5]) -> Case<SplitWires> {
     let mut input = of_k9(&[K9], &[K9], &[3, 1]);
     let other = 77.0f64.to_bits();
-    input.tables.edge_numbers.truncate(24);
-    input.tables.edge_numbers[20..].fill(77);
+    let rows = input.tables.edge_numbers.chunks_mut(EDGE_NUMBERS);
+    rows.zip(preparations)
+        .for_each(|(row, number)| row[4] = number);
+    input.tables.edge_numbers.truncate(30);
+    input.tables.edge_numbers[25..].fill(77);
     input.tables.edge_floats.truncate(36);
     input.tables.edge_floats[30..].fill(other);
     input.points = [3.5, -0.0, 1.25, 4.0].map(f64::to_bits).to_vec();
     input.surface = 9;
     (input.uses, input.lengths) = (vec![77; 8], vec![77; 8]);
-    let mut case = done("K10 cell by cell", input, &K10);
+    let mut case = done(name, input, &K10);
     let after = &mut case.expected.after;
-    after.tables.edge_numbers[20..].copy_from_slice(&[3, 1, 1, 9]);
+    after.tables.edge_numbers[25..].copy_from_slice(&[3, 1, 1, 9, 0]);
     let seam = [3.5, -0.0, 1.25, 4.0, 0.0, 1.0].map(f64::to_bits);
     after.tables.edge_floats[30..].copy_from_slice(&seam);
     after.uses = vec![0, 6, 10, 4, 2, 11, 8, 1];
@@ -490,7 +499,8 @@ fn lists() -> Vec<Case<SplitWires>> {
 }
 
 /// K10 with something done to its edge table, where the vertex rows are no
-/// part of it. Edge 5 is the unused seam, so that the new edge is edge 6.
+/// part of it. Edge 5 is the unused seam, so that the new edge is edge 6, or
+/// edge 5 where that one is not counted.
 fn spoils() -> Vec<Case<SplitWires>> {
     let whole = tables(&POINTS, &sample_edges());
     let of_edges = |spoilt: &Tables| {
@@ -511,8 +521,9 @@ fn spoils() -> Vec<Case<SplitWires>> {
             }
             (spoilt.vertex_numbers, spoilt.vertex_floats) = (vec![], vec![]);
             input.tables = spoilt;
-            cases.push(match number {
-                0 => done(name, input, &["0+ 3+ 6+ 2+", "1+ 6- 4+ 0-"]),
+            cases.push(match (number, input.tables.edges) {
+                (0, 5) => done(name, input, &K10),
+                (0, _) => done(name, input, &["0+ 3+ 6+ 2+", "1+ 6- 4+ 0-"]),
                 _ => Case::unchanged(name, input, number),
             });
         }

@@ -22,10 +22,11 @@
 //!    Each with an empty list or one of the six pairs, in turn.
 //!
 //! In families 3 to 5 the buffers are just long enough, and what is rebuilt
-//! stands in one wire or in two, in turn.
+//! stands in one wire or in two, in turn. In all families the edges have the
+//! three preparations in turn, from any of them on.
 
 use super::{Place, SplitWires};
-use crate::calls::tables::{sample_edges, spans};
+use crate::calls::tables::{in_turn, sample_edges, spans};
 use crate::records::{wire, Edge};
 use crate::shell::{EDGE_FLOATS, EDGE_NUMBERS};
 
@@ -91,6 +92,7 @@ impl Small<'_> {
         let (first, second) = rebuilt.split_at(turn % 2 * (rebuilt.len() / 2));
         let rebuilt = [first.to_vec(), second.to_vec()];
         let rebuilt = &rebuilt[1 - turn % 2..];
+        let table = (table.0, &in_turn(table.1, turn)[..]);
         let input = SplitWires::over(table, [&[face.to_vec()], rebuilt], &places, 0);
         (self.visit)(&input)
     }
@@ -103,7 +105,7 @@ impl Small<'_> {
                 let list: Vec<u32> = (0..length).map(|place| row >> (2 * place) & 3).collect();
                 let places: Vec<Place> = list.iter().map(place).collect();
                 [&[][..], &k9[..]].iter().all(|rebuilt| {
-                    let table = (4, &sample_edges()[..5]);
+                    let table = (4, &in_turn(&sample_edges()[..5], row as usize)[..]);
                     let input = SplitWires::over(table, [&k9, rebuilt], &places, 0);
                     (0..5).all(|short| (self.visit)(&shorter(&input, short)))
                 })
@@ -117,7 +119,7 @@ impl Small<'_> {
         let lists: [&[u32]; 4] = [&[3, 1], &[], &[0, 1, 2, 3], &[3, 1, 0]];
         lists.iter().all(|list| {
             let places: Vec<Place> = list.iter().map(place).collect();
-            let table = (4, &sample_edges()[..5]);
+            let table = (4, &in_turn(&sample_edges()[..5], list.len())[..]);
             let input = SplitWires::over(table, [&k9, &k9], &places, 1);
             self.rooms_for_wires(&input) && self.rooms_for_edges(&input)
         })

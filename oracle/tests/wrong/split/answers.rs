@@ -2,6 +2,10 @@
 
 use super::after;
 use crate::wrong::{step, Mutant};
+use oracle::port::Split;
+use oracle::records::Preparation::{DoubleBevel, SingleBevel};
+use oracle::reference::split::seam;
+use oracle::shell::{EDGE_FLOATS, EDGE_NUMBERS, PREPARATION};
 
 /// All lists.
 pub fn lists() -> Vec<Vec<Mutant>> {
@@ -14,6 +18,7 @@ pub fn lists() -> Vec<Vec<Mutant>> {
         wrong_writes(),
         wrong_writes_of_wires(),
         wrong_cells(),
+        wrong_preparations(),
         wrong_behind(),
     ]
 }
@@ -231,10 +236,10 @@ fn wrong_places_refused() -> Vec<Mutant> {
 }
 
 /// Writes the front and back of the first pair into the first new row.
-fn write_first_row(call: &mut oracle::port::Split) {
+fn write_first_row(call: &mut Split) {
     if call.divisor_count >= 2 {
-        let row = [call.divisor[0], call.divisor[1], 1, call.surface];
-        call.edge_numbers[4 * call.edges..][..4].copy_from_slice(&row);
+        let row = [call.divisor[0], call.divisor[1], 1, call.surface, 0];
+        call.edge_numbers[EDGE_NUMBERS * call.edges..][..EDGE_NUMBERS].copy_from_slice(&row);
     }
 }
 
@@ -263,7 +268,7 @@ fn wrong_writes() -> Vec<Mutant> {
             "a float of a seam written before a dead end",
             |answer, _, call| {
                 if answer == 11 && call.divisor_count > 0 {
-                    call.edge_floats[6 * call.edges + 5] = 1.0f64.to_bits();
+                    call.edge_floats[EDGE_FLOATS * call.edges + 5] = 1.0f64.to_bits();
                 }
                 answer
             },
@@ -314,7 +319,7 @@ fn wrong_cells() -> Vec<Mutant> {
             answer
         }),
         after("only the first seam written", |answer, kept, call| {
-            let row = 4 * (call.edges.min(4096) + 1);
+            let row = EDGE_NUMBERS * (call.edges.min(4096) + 1);
             if let (0, Some(cells)) = (answer, kept.edge_numbers.get(row..)) {
                 call.edge_numbers[row..].copy_from_slice(cells);
             }
@@ -340,6 +345,57 @@ fn wrong_cells() -> Vec<Mutant> {
     ]
 }
 
+/// The rows of the new edges of a call that is done, and those before them.
+fn rows<'a>(answer: i32, call: &'a mut Split) -> [Vec<&'a mut [u32]>; 2] {
+    let edges = if answer == 0 { call.out[2] } else { 0 };
+    let mut rows = call.edge_numbers.chunks_mut(EDGE_NUMBERS).take(edges);
+    let lent = rows.by_ref().take(call.edges).collect();
+    [rows.collect(), lent]
+}
+
+/// Seams, or edges that are lent, with a wrong preparation.
+fn wrong_preparations() -> Vec<Mutant> {
+    vec![
+        step("a seam a single bevel", |r| {
+            r.split.seam = |a, b, surface| seam(a, b, surface).prepared(SingleBevel)
+        }),
+        step("a seam a double bevel", |r| {
+            r.split.seam = |a, b, surface| seam(a, b, surface).prepared(DoubleBevel)
+        }),
+        after("a seam as an edge beside it", |answer, _, call| {
+            let [new, lent] = rows(answer, call);
+            for seam in new {
+                let beside = |row: &&&mut [u32]| row[..2].contains(&seam[0]);
+                if let Some(edge) = lent.iter().find(beside) {
+                    seam[PREPARATION] = edge[PREPARATION];
+                }
+            }
+            answer
+        }),
+        after("a seam as the last edge", |answer, _, call| {
+            let [new, lent] = rows(answer, call);
+            for seam in new {
+                seam[PREPARATION] = lent.last().map_or(0, |edge| edge[PREPARATION]);
+            }
+            answer
+        }),
+        after("a seam's preparation not written", |answer, kept, call| {
+            let from = call.edges;
+            let old = kept.edge_numbers.chunks(EDGE_NUMBERS).skip(from.min(4096));
+            let [new, _] = rows(answer, call);
+            for (seam, old) in new.into_iter().zip(old) {
+                seam[PREPARATION] = old[PREPARATION];
+            }
+            answer
+        }),
+        after("lent edges made square", |answer, _, call| {
+            let [_, lent] = rows(answer, call);
+            lent.into_iter().for_each(|edge| edge[PREPARATION] = 0);
+            answer
+        }),
+    ]
+}
+
 /// Cells behind the result that are not left alone.
 fn wrong_behind() -> Vec<Mutant> {
     vec![
@@ -357,13 +413,13 @@ fn wrong_behind() -> Vec<Mutant> {
         }),
         after("numbers behind the edges cleared", |answer, _, call| {
             if answer == 0 {
-                call.edge_numbers[4 * call.out[2]..].fill(0);
+                call.edge_numbers[EDGE_NUMBERS * call.out[2]..].fill(0);
             }
             answer
         }),
         after("floats behind the edges cleared", |answer, _, call| {
             if answer == 0 {
-                call.edge_floats[6 * call.out[2]..].fill(0);
+                call.edge_floats[EDGE_FLOATS * call.out[2]..].fill(0);
             }
             answer
         }),

@@ -5,7 +5,7 @@ use crate::calls::cut_edge::CutEdge;
 use crate::compare::Case;
 use crate::limits::arrays::{mended, one_use_too_few, two_wires, Around, EDGES_AND_USES};
 use crate::limits::ways::{edge, held, span};
-use crate::records::{Shell, Vertex};
+use crate::records::{Preparation, Shell, Vertex};
 
 /// All cases: the last edge is cut.
 pub fn cases() -> Vec<Case<CutEdge>> {
@@ -22,21 +22,24 @@ pub fn cases() -> Vec<Case<CutEdge>> {
     EDGES_AND_USES.into_iter().flat_map(both).collect()
 }
 
-/// So many lines between two vertices and so many uses of them, before and
-/// after the last line is cut at 3.
+/// So many lines between two vertices, with the preparations in turn, and so
+/// many uses of them, before and after the last line is cut at 3.
 fn lines(edges: usize, uses: usize) -> (Shell, Shell) {
     let (last, new) = (edges as u32 - 1, edges as u32);
-    let line = |number: u32| edge(0, 1, span(number, 0.0, 8.0));
+    let line = |number: u32, from: u32, to: u32, t0: f64, t1: f64| {
+        let edge = edge(from, to, span(number, t0, t1));
+        edge.prepared(Preparation::in_turn(number as usize))
+    };
     let before = Shell {
         vertices: vec![ORIGIN; 2],
-        edges: (0..new).map(line).collect(),
+        edges: (0..new).map(|i| line(i, 0, 1, 0.0, 8.0)).collect(),
         wires: two_wires(edges, uses),
     };
     let [t, x, y, z] = AT_3;
     let mut after = before.clone();
     after.vertices.push(Vertex::Given(x, y, z));
-    after.edges[edges - 1] = edge(0, 2, span(last, 0.0, t));
-    after.edges.push(edge(2, 1, span(last, t, 8.0)));
+    after.edges[edges - 1] = line(last, 0, 2, 0.0, t);
+    after.edges.push(line(last, 2, 1, t, 8.0));
     after.wires = mended(&before.wires, |edge| (edge == last).then_some(new));
     (before, after)
 }

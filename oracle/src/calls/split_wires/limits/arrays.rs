@@ -4,7 +4,7 @@
 
 use super::{place, split_into, K10, K9, UNMARKED};
 use crate::calls::split_wires::{Place, SplitWires};
-use crate::calls::tables::{sample_edges, spans};
+use crate::calls::tables::{in_turn, sample_edges, spans};
 use crate::compare::Case;
 use crate::limits::arrays::{around_64, Around};
 use crate::records::wire;
@@ -30,7 +30,7 @@ fn behind(edges: usize, notations: &[&str]) -> Vec<Vec<u32>> {
 }
 
 /// K10 over the last of so many vertices and of so many edges, with the new
-/// one.
+/// one, and with the preparations in turn.
 fn last_of([vertices, edges]: [usize; 2]) -> SplitWires {
     let (unused, from) = (edges - 6, vertices as u32 - 4);
     let mut all = spans(&vec![(0, from); unused]);
@@ -41,6 +41,7 @@ fn last_of([vertices, edges]: [usize; 2]) -> SplitWires {
     }
     let wires = behind(unused, &[K9]);
     let list = [from + 3, from + 1].map(place);
+    let all = in_turn(&all, 0);
     SplitWires::over((vertices, &all), [&wires, &wires], &list, 3)
 }
 
