@@ -1,5 +1,5 @@
-//! The refusals, written down from the table of the specification and from
-//! nothing else: one function for each cause.
+//! The refusals, written down from the table of the specification, with A.5 for
+//! preparations, and from nothing else: one function for each cause.
 
 pub mod cut;
 pub mod join;

@@ -16,7 +16,7 @@ use std::fmt;
 #[derive(Clone, Copy, Debug, Default, PartialEq, Eq, Hash)]
 #[repr(u32)]
 pub enum Preparation {
-    /// Without a bevel, as are the seams of a split.
+    /// Without a bevel, as the seams of a split are.
     #[default]
     Square = 0,
     /// A bevel on one side.

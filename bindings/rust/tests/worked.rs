@@ -296,7 +296,7 @@ fn seams_are_square_beside_edges_that_are_not() {
 }
 
 #[test]
-fn answers_of_the_other_calls_are_blind_to_preparations() {
+fn the_other_calls_answer_as_over_square_edges() {
     let shell = bevelled_pipe(&[PIPE_WIRE], 0);
     let tables = shell.tables.lend();
     let search = find_non_simple_wire_divisor(tables, shell.wires.lend());

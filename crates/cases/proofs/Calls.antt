@@ -26,7 +26,6 @@ use Rattle.one_cut.specs.Cut.{added_at, cut_once}
 use Rattle.one_cut.specs.Contract.{cut_outcome}
 use Rattle.one_cut.proofs.Preparations.{cut_prepared}
 use Rattle.one_cut.proofs.Reading.{cut_few, cut_read}
-use Rattle.split.specs.Split.{no_edge}
 use Rattle.cases.specs.Cases.{rim_prepared, rim_cut_prepared}
 use Rattle.cases.specs.Bevels.{cut_at_four, cut_left, pass_keeps_bevel, cut_keeps_bevel}
 
@@ -43,8 +42,8 @@ pass_then_cut l c c' o o' d i cs e p e' p' =
 -- ---- the law of preparations, of a pass and of one cut that tell a result: both pieces of K1's edge have its double bevel, or its single one
 pub pass_prepared_bevel : PreparationsKept (Some 1 ∷ []) 1 2 (rim_prepared 2 (0 ∷ [])).slices.en (rim_cut_prepared 2 (0 ∷ 2 ∷ [])).slices.en
 unfolding load rows added_to closed edge_of
-pass_prepared_bevel = pass_prepared no_edge (rim_prepared 2 (0 ∷ [])) _ (rim_cut_prepared 2 (0 ∷ 2 ∷ [])) (sym pass_keeps_bevel) refl
+pass_prepared_bevel = pass_prepared (rim_prepared 2 (0 ∷ [])) _ (rim_cut_prepared 2 (0 ∷ 2 ∷ [])) (sym pass_keeps_bevel) refl
 
 pub cut_prepared_bevel : PreparationsKept (Some 1 ∷ []) 1 2 (rim_prepared 1 (0 ∷ [])).slices.en cut_left.slices.en
 unfolding added_at
-cut_prepared_bevel = cut_prepared no_edge (rim_prepared 1 (0 ∷ [])) 0 _ cut_at_four 1 cut_left (sym cut_keeps_bevel) refl refl
+cut_prepared_bevel = cut_prepared (rim_prepared 1 (0 ∷ [])) 0 _ cut_at_four 1 cut_left (sym cut_keeps_bevel) refl refl

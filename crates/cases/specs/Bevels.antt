@@ -1,11 +1,11 @@
 -- Document 02, A.5, worked over lent slices: K1's edge with another preparation, cut by the pass and by one cut, and a number that is no preparation.
-use Rattle.std.specs.Prelude.{◌≡◌, refl, List, [], ◌∷◌, ◌++◌, ℕ, ◌+◌, ◌*◌, length, Float}
+use Rattle.std.specs.Prelude.{◌≡◌, refl, List, [], ◌∷◌, Float}
 use Rattle.std.specs.Float.Ieee.{of_bits, add, mul, div, neg, lt, le, round}
 use Rattle.compress.specs.Constants.{zero64, four64}
 use Rattle.compress.specs.Layout.{put, store_from, rows}
 use Rattle.compress.specs.Rows.{curve_of, edge_of, vertex_of, edge_number_layout, edge_float_layout, vertex_number_layout, vertex_float_layout}
 use Rattle.compress.specs.Records.{closed}
-use Rattle.compress.specs.Shell.{Lent, load, store_shell, counts_of, vertices_fit, edges_fit, uses_fit, has_room}
+use Rattle.compress.specs.Shell.{load, store_shell, counts_of, vertices_fit, edges_fit, uses_fit, has_room}
 use Rattle.compress.specs.Wires.{total, wires_of, uses_of, lengths_of}
 use Rattle.checks.specs.Causes.{lower_of, lowest_of, float_cause, range_cause, parameter_cause, curve_cause, edge_cause, point_cause, vertex_cause, edge_row_cause, vertex_row_cause, edges_cause, vertices_cause, uses_cause, wires_cause}
 use Rattle.cutting.specs.cut_edge.Cut.{middle_of, halves_of, pending_of}

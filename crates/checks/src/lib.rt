@@ -1,4 +1,4 @@
-// Causes 1 to 5 of document 01's table, for lone numbers, records and wires: every input is checked, and the lowest number wins.
+// Causes 1 to 5 of document 01's table, with document 02's of a preparation, for lone numbers, records and wires: every input is checked, and the lowest number wins.
 // Each check answers for all numbers: nothing, or the refusal whose number is a definition of specs/Causes.
 #![tactic(auto)]
 
@@ -34,7 +34,8 @@ pub fn lower(a: Checked, b: Checked) -> Checked
 // The lowest cause of rows 0, 1 and so on, `count` of them.
 pub fn lowest_cause<F: Fn(usize) -> Checked>(count: usize, row: F) -> Checked
     requires { (i : ℕ) → i < count → F.pre row i }
-    ensures { (f : ℕ → ℕ) → ((i : ℕ) (r : _) → i < count → F.post row i r → cause_of r ≡ f i) → cause_of result ≡ lowest_of f count }
+    ensures { (f : ℕ → ℕ) → ((i : ℕ) (r : _) → i < count → F.post row i r → cause_of r ≡ f i) →
+        cause_of result ≡ lowest_of f count }
 {
     let mut least = Ok(());
     for i in 0..count {

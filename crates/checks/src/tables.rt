@@ -1,4 +1,4 @@
-// Causes 1 to 5 of document 01's table, for tables of edges and of vertices: every row is checked, and the lowest number wins.
+// Causes 1 to 5 of document 01's table, with document 02's of a preparation, for tables of edges and of vertices: every row is checked, and the lowest number wins.
 
 ghost use Rattle.std.specs.Prelude.{◌≡◌, true, ℕ, ◌+◌, ◌*◌, ◌≤◌, ◌<◌, eqb, length, get_or};
 ghost use Rattle.std.specs.Float.{nan};

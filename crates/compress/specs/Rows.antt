@@ -80,7 +80,7 @@ curve_at kind n fs j =
     curve_of kind n (record { u = get_or fs j nan; v = get_or fs (j + 1) nan }) (record { u = get_or fs (j + 2) nan; v = get_or fs (j + 3) nan })
     (get_or fs (j + t0_place) nan) (get_or fs (j + t1_place) nan)
 
--- 0 is square, 1 single bevel; a number above 2 is refused before it is read
+-- 0 is square, 1 single bevel, 2 double bevel; a number above 2 is refused before it is read
 abbrev pub preparation_of : ℕ → Preparation
 preparation_of n = pick (eqb n 0) Square (pick (eqb n 1) SingleBevel DoubleBevel)
 

@@ -79,8 +79,8 @@ module _ (es : ℕ → Edge) (m : ℕ) where
   pub back_second : back_at es (m * 2 + 1) ≡ (es m).front
   back_second = back_reversed es (m * 2 + 1) odd ∙ rw half_reversed
 
--- Of n edges, each that the map does not name has its ends as before, and each that it names has its two halves, all with its preparation: `es` before,
--- `es'` after.
+-- Of n edges, each that the map does not name has its ends as before, and each that it names has its two halves; and each edge, and each half, has the
+-- preparation that the edge had: `es` before, `es'` after.
 pub record Halved (added : List (Option ℕ)) (n : ℕ) (es es' : ℕ → Edge) : Type 0 where
   pub kept : (i : ℕ) → i < n → get_or added i None ≡ None → ((es' i).front ≡ (es i).front) × ((es' i).back ≡ (es i).back)
   pub cut : (i m : ℕ) → i < n → get_or added i None ≡ Some m

@@ -5,9 +5,9 @@ use mathlib.Core.Bool.{Bool, true, false, ◌&&◌}
 use mathlib.Core.List.{List}
 use Prim.Native.Nat.{ℕ, ◌≤◌, ◌<◌}
 use native.Mathlib.Omega.{arith}
-use lib.ListN.{length, get_or}
+use lib.ListN.{length}
 use Rattle.std.proofs.lemmas.Bool.{and_parts}
-use Rattle.std.specs.Prelude.{Option, Some, None}
+use Rattle.std.specs.Prelude.{Option}
 use Rattle.compress.specs.declared.Counts.{Counts}
 use Rattle.compress.specs.declared.Edge.{Edge}
 use Rattle.compress.specs.Records.{preparation_number}
@@ -62,6 +62,7 @@ preparations_kept d l r c added z H more below mother p =
       old = λ i lt.
           left_prepared d l.slices r c i (omega arith) p ∙ ap preparation_number (H.old i lt) ∙ lent_prepared d l z i lt;
       piece = λ i j q.
-          left_prepared d l.slices r c j (below i j q) p ∙ ap preparation_number (H.piece i j q.below q.named) ∙ lent_prepared d l z i q.below;
+          let lt = below i j q in
+          (omega arith, left_prepared d l.slices r c j lt p ∙ ap preparation_number (H.piece i j q.below q.named) ∙ lent_prepared d l z i q.below);
       mother = λ j lo hi. mother j lo (omega arith);
     }

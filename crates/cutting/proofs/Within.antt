@@ -5,13 +5,9 @@ use lib.Ieee.{Float, binary64, fits, add}
 use lib.Ieee.Fits.{div-fits}
 use Rattle.compress.specs.Constants.{two64}
 use Rattle.compress.specs.declared.Edge.{Edge}
-use Rattle.compress.specs.declared.Curve.{Curve}
-use Rattle.compress.specs.declared.Curve.TheVariants.{Span, Seam}
-use Rattle.compress.specs.Records.{first_of, last_of}
 use Rattle.floats.specs.Exact.{midpoint_of}
 use Rattle.floats.proofs.Middle.{midpoint_between}
-use Rattle.checks.specs.Causes.{range_cause, parameter_cause, curve_cause, uv_cause, vertex_cause}
-use Rattle.checks.proofs.Lowest.{lower_none}
+use Rattle.checks.specs.Causes.{range_cause, parameter_cause, curve_cause, vertex_cause}
 use Rattle.checks.proofs.Sound.{lower_zero, range_ordered, parameter_sound, curve_range}
 use Rattle.cutting.specs.cut_edge.Cut.{Middle, pending_of}
 

@@ -28,15 +28,15 @@ pub record Keeps (d : Edge) (s after : Shell) : Type 0 where
   pub connected : (k : ℕ) → Connected (front_in d s) (back_in d s) (wire_in s k) → Connected (front_in d after) (back_in d after) (wire_in after k)
   pub closed : (k : ℕ) → Closed (front_in d s) (back_in d s) (wire_in s k) → Closed (front_in d after) (back_in d after) (wire_in after k)
 
--- Edge j is a piece of edge i, one of n: the map of cut edges names it.
+-- Edge j is the piece cut off edge i, one of n: the map of cut edges names it.
 pub record PieceOf (added : List (Option ℕ)) (n i j : ℕ) : Type 0 where
   pub below : i < n
   pub named : get_or added i None ≡ Some j
 
 -- document 02, A.5: "Every call that cuts an edge gives each piece the preparation of the old one." Of the numbers of n edges as they were lent, and of m
--- edges as they were left: every edge lent has its preparation still, whether it was cut or not, and every other one is a piece of one of these and has
+-- edges as they were left: every edge lent has its preparation still, whether it was cut or not, and every other one was cut off one of these and has
 -- the preparation of its mother.
 pub record PreparationsKept (added : List (Option ℕ)) (n m : ℕ) (lent left : List ℕ) : Type 0 where
   pub old : (i : ℕ) → i < n → preparation_at left i ≡ preparation_at lent i
-  pub piece : (i j : ℕ) → PieceOf added n i j → preparation_at left j ≡ preparation_at lent i
+  pub piece : (i j : ℕ) → PieceOf added n i j → (j < m) × (preparation_at left j ≡ preparation_at lent i)
   pub mother : (j : ℕ) → n ≤ j → j < m → (i : ℕ) × PieceOf added n i j

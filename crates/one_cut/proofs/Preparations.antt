@@ -1,23 +1,22 @@
 -- One cut keeps every preparation, and both pieces have their mother's; no cut changes nothing. Assumes nothing.
-use mathlib.Core.Path.{◌≡◌, refl, ap, sym, ◌∙◌}
+use mathlib.Core.Path.{◌≡◌, refl, sym, ◌∙◌}
 use mathlib.Core.List.{List, [], ◌∷◌, ◌++◌}
-use Prim.Native.Nat.{ℕ, ◌+◌, ◌≤◌, ◌<◌}
+use Prim.Native.Nat.{ℕ, ◌+◌, ◌<◌}
 use native.Mathlib.Omega.{arith}
 use lib.Dec.{eqb}
 use lib.Ieee.{Float}
 use lib.ListN.{length, get_or, set, length-append, length-set}
-use Rattle.std.specs.Prelude.{Option, Some, None}
 use Rattle.compress.specs.declared.Counts.{Counts}
-use Rattle.compress.specs.declared.Edge.{Edge}
 use Rattle.compress.specs.Layout.{rows}
 use Rattle.compress.specs.Rows.{edge_at}
 use Rattle.compress.specs.Said.{result}
 use Rattle.compress.specs.Shell.{Lent, load}
+use Rattle.compress.specs.Worked.{between}
 use Rattle.compress.proofs.Layouts.{length_rows, rows_none, rows_first}
 use Rattle.compress.proofs.Loading.{edge_loaded}
 use Rattle.cutting.specs.cut_edge.Cut.{halves_of}
-use Rattle.cutting.specs.Contract.{Outcome, input_cause, turned_away}
-use Rattle.cutting.specs.Keeps.{PieceOf, PreparationsKept}
+use Rattle.cutting.specs.Contract.{Outcome, input_cause}
+use Rattle.cutting.specs.Keeps.{PreparationsKept}
 use Rattle.cutting.proofs.Preparations.{preparations_kept}
 use Rattle.cutting.proofs.Reading.{cause_none, cause_passed}
 use Rattle.one_cut.specs.declared.cuts.Cut.{Cut}
@@ -27,12 +26,13 @@ use Rattle.one_cut.specs.Contract.{one_cut_cause, once_outcome, cut_by, cut_outc
 use Rattle.one_cut.proofs.Laws.{added_here, named_here, halved}
 use Rattle.one_cut.proofs.Outcome.{call_checked}
 
-module _ (d : Edge) (l : Lent) (i : ℕ) (c : Counts) where
+module _ (l : Lent) (i : ℕ) (c : Counts) where
   once_prepared : input_cause l ≡ 0 → i < l.edges → (k : Cut) → (once_outcome l i k).said ≡ result c
       → PreparationsKept (added_at l.edges i l.edges) l.edges c.edges l.slices.en (once_outcome l i k).slices.en
   unfolding once_outcome load cut_once
   once_prepared z lt k p =
       let s = load l in
+      let d = between 0 0 in
       let e = edge_at l.slices.en l.slices.ef i in
       let h = halves_of e k.t (length s.vertices) in
       let n : length s.edges ≡ l.edges = length_rows (edge_at l.slices.en l.slices.ef) 0 l.edges in

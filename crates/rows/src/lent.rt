@@ -49,7 +49,8 @@ impl<'a> Stretch<'a> {
     // The uses, where so many are lent.
     pub fn lent_uses(&self) -> Option<&'a [u32]>
         ensures { let s = self.now in
-            MatchOption result (length s.uses.now < s.count) (λ u. (s.count ≤ length s.uses.now) × (u.now ≡ take s.count s.uses.now)) }
+            MatchOption result (length s.uses.now < s.count)
+            (λ u. (s.count ≤ length s.uses.now) × (u.now ≡ take s.count s.uses.now)) }
     {
         self.uses.get(..self.count)
     }

@@ -1,5 +1,5 @@
 -- The closed-edge pass keeps every preparation, and every piece has its mother's. Assumes nothing.
-use mathlib.Core.Path.{◌≡◌, refl, ap, sym, ◌∙◌}
+use mathlib.Core.Path.{◌≡◌, refl, ap, ◌∙◌}
 use mathlib.Core.Bool.{Bool, true, false}
 use mathlib.Core.List.{List, [], ◌∷◌, ◌++◌}
 use Prim.Native.Nat.{ℕ, zero, suc, ◌+◌, ◌≤◌, ◌<◌}
@@ -14,6 +14,7 @@ use Rattle.compress.specs.Records.{closed}
 use Rattle.compress.specs.Rows.{edge_at}
 use Rattle.compress.specs.Said.{result}
 use Rattle.compress.specs.Shell.{Lent, load}
+use Rattle.compress.specs.Worked.{between}
 use Rattle.compress.proofs.Layouts.{length_rows}
 use Rattle.cutting.specs.Contract.{Outcome, input_cause, result_of}
 use Rattle.cutting.specs.Keeps.{PieceOf, PreparationsKept}
@@ -77,7 +78,7 @@ mother_found (e ∷ es) n m j lo hi = by (closed e) (eqb m j) refl refl (λ n' m
     by false c q r further = found_there false e es m j q (further n m lo (omega (arith, count_new false e es n q)))
 
 -- ---- of the call
-module _ (d : Edge) (l : Lent) (c : Counts) where
+module _ (l : Lent) (c : Counts) where
   result_prepared : input_cause l ≡ 0 → (result_of l.slices (split_closed_edges (load l))).said ≡ result c
       → PreparationsKept (added_to l.edges (load l).edges) l.edges c.edges l.slices.en (result_of l.slices (split_closed_edges (load l))).slices.en
   unfolding load split_closed_edges
@@ -87,7 +88,7 @@ module _ (d : Edge) (l : Lent) (c : Counts) where
       let k : length es ≡ l.edges = length_rows (edge_at l.slices.en l.slices.ef) 0 l.edges in
       let all : length (kept_edges n es ++ new_edges n es) ≡ l.edges + length (new_edges n es)
       = length-append (kept_edges n es) (new_edges n es) ∙ rw (length_kept es n, k) in
-      preparations_kept d l (split_closed_edges (load l)) c (added_to l.edges es) z (rw k at (pass_halved d (load l))) (omega (arith, all))
+      preparations_kept (between 0 0) l (split_closed_edges (load l)) c (added_to l.edges es) z (rw k at (pass_halved (between 0 0) (load l))) (omega (arith, all))
       (λ i j q. omega (arith, all, named_below es n l.edges i j q.named))
       (λ j lo hi. rw k at (mother_found es n l.edges j lo (omega (arith, all)))) p
 

@@ -177,7 +177,8 @@ pub fn sort_wires(
     opens: &mut [u32],
     closed: &mut [u32],
 ) -> Result<Option<usize>, Refusal>
-    ensures { unsorted (said_if (λ n. n) result) opens.new closed.new ≡ sort_wires ends.now.floats.now ends.now.count opens.old closed.old }
+    ensures { unsorted (said_if (λ n. n) result) opens.new closed.new ≡
+        sort_wires ends.now.floats.now ends.now.count opens.old closed.old }
 {
     ends.cause()?;
     ends.sort_checked(opens, closed)

@@ -23,10 +23,10 @@ left s = number_rows (length (chunks_exact_rest s) / numbers_per_edge) (chunks_e
 
 number_rows_first : (x rest : List ℕ) → length x ≡ numbers_per_edge → number_rows (length (x ++ rest) / numbers_per_edge) (x ++ rest) ≡ x ∷ number_rows (length rest / numbers_per_edge) rest
 unfolding number_rows
-number_rows_first x rest five =
+number_rows_first x rest width =
     let n : length (x ++ rest) / numbers_per_edge ≡ suc (length rest / numbers_per_edge) = omega (arith, length-append x rest) in
-    let t : take numbers_per_edge (x ++ rest) ≡ x = rw five at (take-append_seam x rest) in
-    let d : drop numbers_per_edge (x ++ rest) ≡ rest = rw five at (drop-append_seam x rest) in
+    let t : take numbers_per_edge (x ++ rest) ≡ x = rw width at (take-append_seam x rest) in
+    let d : drop numbers_per_edge (x ++ rest) ≡ rest = rw width at (drop-append_seam x rest) in
     rw (n, t, d)
 
 pub yields_rows : (s : ChunksExact ℕ) (xs : List ℕ) → chunks_exact_rest s ≡ xs → chunks_exact_size s ≡ numbers_per_edge → YieldsList (chunks_exact_steps {A = ℕ}) (λ y. y.now) s (number_rows (length xs / numbers_per_edge) xs)

@@ -9,7 +9,7 @@ use super::{Place, SplitWires};
 use crate::calls::tables::{sample_edges, spans, tables, POINTS, SPOILS};
 use crate::compare::Case;
 use crate::records::{wires, Curve, Edge, Preparation};
-use crate::shell::{Tables, EDGE_NUMBERS};
+use crate::shell::{Tables, EDGE_NUMBERS, PREPARATION};
 
 /// All cases.
 pub fn cases() -> Vec<Case<SplitWires>> {
@@ -425,7 +425,7 @@ fn cell_by_cell(name: &'static str, preparations: [u32; 5]) -> Case<SplitWires> 
     let other = 77.0f64.to_bits();
     let rows = input.tables.edge_numbers.chunks_mut(EDGE_NUMBERS);
     rows.zip(preparations)
-        .for_each(|(row, number)| row[4] = number);
+        .for_each(|(row, number)| row[PREPARATION] = number);
     input.tables.edge_numbers.truncate(30);
     input.tables.edge_numbers[25..].fill(77);
     input.tables.edge_floats.truncate(36);
