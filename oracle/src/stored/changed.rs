@@ -145,12 +145,7 @@ fn wrapping_open_wires(input: &mut JoinWires) -> bool {
 /// Both lengths of two new wires together are 0, where that is taken in 32
 /// bits.
 fn wrapping_new_wires(input: &mut JoinWires) -> bool {
-    let new = &mut input.new;
-    if new.wires != 2 || new.lengths[0] == 0 {
-        return false;
-    }
-    new.lengths[1] = new.lengths[0].wrapping_neg();
-    true
+    cancel(input.new.wires, &mut input.new.lengths)
 }
 
 /// Empty wires are put behind the face's until there are so many in all.
@@ -170,11 +165,15 @@ fn wrapping_wires(input: &mut SplitWires) -> bool {
 
 /// Both lengths together are 0, where that is taken in 32 bits.
 fn wrapping_lengths(input: &mut SplitWires) -> bool {
-    let rebuilt = &mut input.rebuilt;
-    if rebuilt.wires != 2 || rebuilt.lengths[0] == 0 {
+    cancel(input.rebuilt.wires, &mut input.rebuilt.lengths)
+}
+
+/// Of two lengths the second is made to cancel the first in 32 bits.
+fn cancel(wires: usize, lengths: &mut [u32]) -> bool {
+    if wires != 2 || lengths[0] == 0 {
         return false;
     }
-    rebuilt.lengths[1] = rebuilt.lengths[0].wrapping_neg();
+    lengths[1] = lengths[0].wrapping_neg();
     true
 }
 

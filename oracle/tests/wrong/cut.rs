@@ -1,6 +1,7 @@
 //! Wrong cuts of an edge.
 
 use super::{behind, step, Mutant};
+use oracle::model::MOST_EDGES;
 use oracle::port::Cut;
 use oracle::records::Preparation::{DoubleBevel, SingleBevel, Square};
 use oracle::records::Vertex;
@@ -34,6 +35,23 @@ pub fn lists() -> Vec<Vec<Mutant>> {
 /// A cut that does something wrong after all else was right.
 fn after(name: &'static str, spoil: fn(i32, &Lent, &mut Cut) -> i32) -> Mutant {
     behind(name, |after| after.cut = spoil)
+}
+
+/// Where an edge was cut, the number that was lent in the cell `from` is put over
+/// this number of the new edge.
+fn put_over_new(answer: i32, before: &Lent, call: &mut Cut, [from, number]: [usize; 2]) -> i32 {
+    if (answer, call.cut_count) == (0, 1) {
+        let cell = before.tables.edges * EDGE_NUMBERS + number;
+        call.pass.edge_numbers[cell] = before.tables.edge_numbers[from];
+    }
+    answer
+}
+
+/// A number of the new edge is what its cell held before. A count that is not
+/// refused is within its bound.
+fn leave_in_new(answer: i32, before: &Lent, call: &mut Cut, number: usize) -> i32 {
+    let cell = before.tables.edges.min(MOST_EDGES) * EDGE_NUMBERS + number;
+    put_over_new(answer, before, call, [cell, number])
 }
 
 /// Curves and ends of the two pieces that are wrong.
@@ -98,13 +116,7 @@ pub fn wrong_preparations() -> Vec<Mutant> {
         }),
         after(
             "the first edge's for the new one",
-            |answer, before, call| {
-                if (answer, call.cut_count) == (0, 1) {
-                    let cell = before.tables.edges * EDGE_NUMBERS + PREPARATION;
-                    call.pass.edge_numbers[cell] = before.tables.edge_numbers[PREPARATION];
-                }
-                answer
-            },
+            |answer, before, call| put_over_new(answer, before, call, [PREPARATION, PREPARATION]),
         ),
         after("edges that are not cut square", |answer, before, call| {
             let edges = if answer == 0 { before.tables.edges } else { 0 };
@@ -563,31 +575,15 @@ pub fn wrong_cut_cells() -> Vec<Mutant> {
             },
         ),
         after("the new edge's kind not written", |answer, before, call| {
-            if (answer, call.cut_count) == (0, 1) {
-                let cell = before.tables.edges * EDGE_NUMBERS + 2;
-                call.pass.edge_numbers[cell] = before.tables.edge_numbers[cell];
-            }
-            answer
+            leave_in_new(answer, before, call, 2)
         }),
         after(
             "the new edge's number not written",
-            |answer, before, call| {
-                if (answer, call.cut_count) == (0, 1) {
-                    let cell = before.tables.edges * EDGE_NUMBERS + 3;
-                    call.pass.edge_numbers[cell] = before.tables.edge_numbers[cell];
-                }
-                answer
-            },
+            |answer, before, call| leave_in_new(answer, before, call, 3),
         ),
         after(
             "the new edge's preparation not written",
-            |answer, before, call| {
-                if (answer, call.cut_count) == (0, 1) {
-                    let cell = before.tables.edges * EDGE_NUMBERS + PREPARATION;
-                    call.pass.edge_numbers[cell] = before.tables.edge_numbers[cell];
-                }
-                answer
-            },
+            |answer, before, call| leave_in_new(answer, before, call, PREPARATION),
         ),
     ]
 }
