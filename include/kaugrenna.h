@@ -1,7 +1,7 @@
 /*
  * Kaugrenna: cut edges and mended wires for burner pipe shells, verified.
  *
- * The ten calls of libhealing.a, which `rt lib` in crates/healing writes to
+ * The eleven calls of libhealing.a, which `rt lib` in crates/healing writes to
  * crates/healing/out. Each has its contract, which is proved, in
  * crates/healing/src; document 01 is the specification. The archive asks for
  * memcpy, memmove and memset, and for nothing else. This header is C from C89
@@ -44,7 +44,8 @@
  *             area
  *
  * Since 0.2.0 an edge has 5 numbers; in 0.1.0 it had 4, without the
- * preparation.
+ * preparation. Since 0.3.0 the closed-edge pass takes k; before, it cut at
+ * the middle. Header and archive go together.
  *
  * Cells that a record of its kind does not have are no input and keep what
  * they held, and so do entries past a count or past a result.
@@ -67,8 +68,8 @@
 #include <stdint.h>
 
 /* The version of this header: 10,000, 100 and 1 for each of its numbers. */
-#define KAUGRENNA_VERSION 200
-#define KAUGRENNA_VERSION_TEXT "0.2.0"
+#define KAUGRENNA_VERSION 300
+#define KAUGRENNA_VERSION_TEXT "0.3.0"
 
 /* A result, and "none": no result, and nothing is wrong with the input. */
 #define KAUGRENNA_DONE 0
@@ -91,6 +92,9 @@
 #define KAUGRENNA_MAX_WIRES 64
 #define KAUGRENNA_MAX_USES 1024
 #define KAUGRENNA_MAX_SIZE 1.0e15
+
+/* The number of eighths to the middle of a curve. */
+#define KAUGRENNA_MIDDLE 4
 
 /* The use of an edge below 2^31, against its direction where `reversed` is
    not 0; the edge of a use; 1 where the use is reversed, else 0. */
@@ -119,7 +123,8 @@ enum kaugrenna_preparation {
 /*
  * The refusals; `kaugrenna_text` has a sentence for each. Every input is
  * checked, used or not, and the lowest number wins; 8, 11, 12 and 13 come
- * after the others, as first reached. Outside a split 6 comes last of all.
+ * after the others, as first reached. Outside a split 6 comes last of all: in
+ * the closed-edge pass 1 to 5, 18 and then 6.
  */
 enum kaugrenna_refusal {
     KAUGRENNA_MALFORMED = 1,
@@ -136,7 +141,8 @@ enum kaugrenna_refusal {
     KAUGRENNA_TOO_MANY_USES = 12,
     KAUGRENNA_EMPTY_LIST = 13,
     KAUGRENNA_SEVERAL_CUTS = 14,
-    KAUGRENNA_EMPTY_OPEN_WIRE = 15
+    KAUGRENNA_EMPTY_OPEN_WIRE = 15,
+    KAUGRENNA_EIGHTHS_OUT_OF_RANGE = 18
 };
 
 /* `inline`, as far as the language has it. */
@@ -195,6 +201,8 @@ KAUGRENNA_INLINE const char *kaugrenna_text(int32_t code) {
         return "an edge is to be cut at two or more places";
     case KAUGRENNA_EMPTY_OPEN_WIRE:
         return "an open wire handed to a join is empty";
+    case KAUGRENNA_EIGHTHS_OUT_OF_RANGE:
+        return "the number of eighths is outside 1 to 7";
     default:
         return "the code is unknown: header and archive do not belong together";
     }
@@ -205,10 +213,16 @@ extern "C" {
 #endif
 
 /*
- * Every closed edge is cut and every wire mended, in place; both pieces have
- * the preparation of the edge that was cut. 0: done, and the three places hold
- * the new counts of vertices, edges and uses. Else the number of the refusal,
- * and nothing lent is changed.
+ * Every closed edge is cut, k eighths of the way along its curve, and every
+ * wire mended, in place; both pieces have the preparation of the edge that was
+ * cut. The parameter of the cut, which the new vertex has too, is the one that
+ * `kaugrenna_cut_parameter` answers for the edge's t0, t1 and k. With k 4,
+ * KAUGRENNA_MIDDLE, the answers are those of 0.2.0, which took no k. 0: done,
+ * and the three places hold the new counts of vertices, edges and uses. Else
+ * the number of the refusal, and nothing lent is changed.
+ *
+ * k is 1 to 7. Any other is refused (18), also where no edge is closed, and
+ * before 6.
  *
  * Room: a row in each table for every closed edge, and a place in `uses` for
  * every use of one.
@@ -229,9 +243,27 @@ int32_t kaugrenna_split_closed_edges(
     size_t vertices,
     size_t edges,
     size_t wires,
+    uint32_t k,
     size_t *vertices_out,
     size_t *edges_out,
     size_t *uses_out);
+
+/*
+ * The parameter k eighths of the way from t0 to t1, at which
+ * `kaugrenna_split_closed_edges` cuts a curve. For k 4 it is (t0 + t1) / 2,
+ * else t0 + (t1 - t0) * k / 8, rounded at each step from left to right; what
+ * is below t0 then becomes t0, and what is above t1 becomes t1. So it is never
+ * outside t0 to t1. 0: done, and `t_out` holds the parameter. Else the number
+ * of the refusal, and `t_out` is not changed.
+ *
+ * Refused: a float that is not a number or above 1.0e15 in size (4), t0 above
+ * t1 (5), and then k outside 1 to 7 (18).
+ */
+int32_t kaugrenna_cut_parameter(
+    double t0,
+    double t1,
+    uint32_t k,
+    double *t_out);
 
 /*
  * Edge number `edge` is cut by the cuts in `cuts`, four floats each:

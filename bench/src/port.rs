@@ -82,13 +82,15 @@ const RESULT: &str = "there is a result";
 /// The closed-edge pass.
 pub struct Pass {
     slices: Slices,
+    k: u32,
     said: Result<kaugrenna::Counts, Refusal>,
 }
 
 impl Pass {
-    pub fn of(shell: &Shell, more: usize) -> Self {
+    pub fn of(shell: &Shell, more: usize, k: u32) -> Self {
         Pass {
             slices: Slices::of(shell, more, more),
+            k,
             said: Err(Refusal::Malformed),
         }
     }
@@ -103,7 +105,7 @@ impl Ready for Pass {
 
     fn run(&mut self) {
         let Slices { tables, wires } = &mut self.slices;
-        self.said = kaugrenna::split_closed_edges(tables.lend_mut(), wires.lend_mut());
+        self.said = kaugrenna::split_closed_edges(tables.lend_mut(), wires.lend_mut(), self.k);
     }
 
     fn answer(&self) -> Shell {

@@ -95,9 +95,17 @@ fn visit_cuts(size: Size, visitor: &mut impl Visitor) {
     let (shell, more) = inputs::pass(size);
     visitor.row(
         over_tables("split_closed_edges", size),
-        |_| port::Pass::of(&shell, more),
+        |_| port::Pass::of(&shell, more, 4),
         |_| rust::Pass::of(&shell, more),
     );
+    if size.uses == 1024 {
+        // Here the Rust's curves name the parameter in place of their range.
+        visitor.row(
+            over_tables("split_closed_edges, k 3", size),
+            |_| port::Pass::of(&shell, more, 3),
+            |_| rust::Pass::at(&shell, more, 3),
+        );
+    }
     let shell = inputs::cut(size);
     let cut = [shell.edges[0].curve.range().0 + 0.25, 1.0, 2.0, 3.0];
     visitor.row(

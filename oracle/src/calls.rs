@@ -3,6 +3,7 @@
 
 pub mod boundary_type;
 pub mod cut_edge;
+pub mod cut_parameter;
 pub mod find_divisor;
 pub mod get_mindiff;
 pub mod join_wires;
@@ -21,6 +22,15 @@ use crate::random::Random;
 pub trait Families: Input {
     /// How many inputs of a random family are made where one is asked for.
     const TIMES: usize = 1;
+
+    /// How many inputs of a random family stand in a row: they are made alike,
+    /// and then told their place in it.
+    const ROW: usize = 1;
+
+    /// The input at this place of its row.
+    fn at(self, _place: usize) -> Self {
+        self
+    }
 
     /// Named inputs with their answers written out by hand.
     fn limits() -> Vec<Case<Self>>;

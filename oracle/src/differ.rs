@@ -6,12 +6,12 @@ use crate::calls::find_divisor::FindDivisor;
 use crate::calls::join_wires::JoinWires;
 use crate::calls::nearest_correction::NearestEnds;
 use crate::calls::sort_wires::SortWires;
+use crate::calls::split_closed_edges::SplitClosed;
 use crate::calls::split_wires::SplitWires;
 use crate::calls::Families;
 use crate::compare::Tally;
-use crate::port::{NearestCopy, Port, Unwrap, WireEnds};
+use crate::port::{CutParameter, NearestCopy, Port, Unwrap, WireEnds};
 use crate::random::Random;
-use crate::shell::Lent;
 use std::collections::BTreeMap;
 use std::num::NonZero;
 use std::ops::Range;
@@ -88,8 +88,9 @@ const fn runner<I: Families>() -> Runner {
 }
 
 /// All calls, in the order in which they are run.
-pub const CALLS: [Runner; 10] = [
-    runner::<Lent>(),
+pub const CALLS: [Runner; 11] = [
+    runner::<SplitClosed>(),
+    runner::<CutParameter>(),
     runner::<Unwrap>(),
     runner::<NearestCopy>(),
     runner::<WireEnds>(),
@@ -101,7 +102,7 @@ pub const CALLS: [Runner; 10] = [
     runner::<SplitWires>(),
 ];
 
-/// How the inputs of a random group are made.
+/// How an input of a random group is made.
 fn maker<I: Families>(group: Group) -> Option<fn(&mut Random) -> I> {
     match group {
         Group::Random => Some(I::random),
@@ -109,6 +110,12 @@ fn maker<I: Families>(group: Group) -> Option<fn(&mut Random) -> I> {
         Group::Noise => Some(I::noise),
         Group::Small | Group::Limits => None,
     }
+}
+
+/// The input of a random group that has this index under a seed.
+fn made<I: Families>(make: fn(&mut Random) -> I, group: Group, seed: u64, index: usize) -> I {
+    let random = &mut Random::new(seed, group as u64, (index / I::ROW) as u64);
+    make(random).at(index % I::ROW)
 }
 
 /// Every group of every call, in order.
@@ -167,11 +174,7 @@ fn run<I: Families>(port: &dyn Port, group: Group, plan: Plan) -> Tally {
         None => I::small(&mut judge),
         Some(make) => {
             for index in 0..plan.calls * I::TIMES {
-                if !judge(&make(&mut Random::new(
-                    plan.seed,
-                    group as u64,
-                    index as u64,
-                ))) {
+                if !judge(&made(make, group, plan.seed, index)) {
                     break;
                 }
             }
@@ -185,7 +188,7 @@ fn run_part<I: Families>(port: &dyn Port, group: Group, seed: u64, indices: Rang
     let make = maker::<I>(group).expect("a random group");
     let mut tally = Tally::default();
     for index in indices.clone() {
-        let input = make(&mut Random::new(seed, group as u64, index as u64));
+        let input = made(make, group, seed, index);
         tally.judge(port, &input, &input.expected());
     }
     if let Some(found) = &mut tally.smallest {

@@ -71,12 +71,29 @@ mod split_closed_faces {
     mod worked;
 }
 
+/// A curve that the pass can cut.
+trait Closable: BoundedCurve<Point = records::Vertex> + Cut + Recorded {}
+impl<C: BoundedCurve<Point = records::Vertex> + Cut + Recorded> Closable for C {}
+
 /// Runs the Rust's `split_closed_edges` over a shell whose wires are dealt
-/// out to so many faces, one after the other in turn.
-pub fn split(shell: &records::Shell, faces: usize) -> records::Shell {
-    let mut rust: Shell<_, On<records::Vertex>, ()> = Shell {
+/// out to so many faces, one after the other in turn. Where k is not 4 its
+/// curves name another place for their middle.
+pub fn split(shell: &records::Shell, faces: usize, k: u32) -> records::Shell {
+    match k {
+        4 => split_over(shell, faces, On::from),
+        _ => split_over(shell, faces, |curve| Eighths::of(curve, k)),
+    }
+}
+
+/// The same over curves that are made of the records.
+fn split_over<C: Closable>(
+    shell: &records::Shell,
+    faces: usize,
+    curve: impl Fn(records::Curve) -> C,
+) -> records::Shell {
+    let mut rust = Shell {
         vertices: shell.vertices.clone(),
-        edges: shell.edges.iter().map(to_rust).collect(),
+        edges: edges_over(&shell.edges, curve),
         faces: deal(&shell.wires, faces),
     };
     split_closed_edges::split_closed_edges(&mut rust);
@@ -85,6 +102,24 @@ pub fn split(shell: &records::Shell, faces: usize) -> records::Shell {
         vertices: rust.vertices,
         edges: from_edges(&rust.edges, &preparations),
         wires: gather(&rust.faces, shell.wires.len()),
+    }
+}
+
+/// Where the Rust cuts a curve of this range.
+pub fn middle(t0: f64, t1: f64) -> f64 {
+    let curve = records::Curve::Span { number: 0, t0, t1 };
+    let mut rust: Shell<records::Vertex, _, ()> = Shell {
+        vertices: Vec::new(),
+        edges: vec![Edge {
+            vertices: (0, 0),
+            curve: On::from(curve),
+        }],
+        faces: Vec::new(),
+    };
+    split_closed_edges::split_closed_edges(&mut rust);
+    match rust.vertices[..] {
+        [records::Vertex::Pending(_, t)] => t,
+        _ => panic!("one vertex is added"),
     }
 }
 
@@ -232,6 +267,16 @@ fn stand_ins(vertices: &[records::Vertex]) -> Vec<Point3> {
 
 /// Edges as the Rust holds them.
 fn to_edges(edges: &[records::Edge]) -> Vec<Edge<On<Point3>>> {
+    edges_over(edges, On::from)
+}
+
+/// Edges as the Rust holds them, without their preparations and over curves
+/// that are made of the records.
+fn edges_over<C>(edges: &[records::Edge], curve: impl Fn(records::Curve) -> C) -> Vec<Edge<C>> {
+    let to_rust = |edge: &records::Edge| Edge {
+        vertices: (edge.front as usize, edge.back as usize),
+        curve: curve(edge.curve),
+    };
     edges.iter().map(to_rust).collect()
 }
 
@@ -240,27 +285,19 @@ fn numbers((v0, v1): (usize, usize)) -> [u32; 2] {
     [v0 as u32, v1 as u32]
 }
 
-/// An edge as the Rust holds it, without its preparation.
-fn to_rust<P>(edge: &records::Edge) -> Edge<On<P>> {
-    Edge {
-        vertices: (edge.front as usize, edge.back as usize),
-        curve: On::from(edge.curve),
-    }
-}
-
 /// An edge as it is lent, with the preparation that it must have.
-fn from_rust<P>(edge: &Edge<On<P>>, preparation: Preparation) -> records::Edge {
+fn from_rust<C: Recorded>(edge: &Edge<C>, preparation: Preparation) -> records::Edge {
     records::Edge {
         front: edge.vertices.0 as u32,
         back: edge.vertices.1 as u32,
-        curve: edge.curve.curve,
+        curve: edge.curve.record(),
         preparation,
     }
 }
 
 /// All edges that come back from the Rust, with the preparations that they
 /// must have.
-fn from_edges<P>(edges: &[Edge<On<P>>], preparations: &[Preparation]) -> Vec<records::Edge> {
+fn from_edges<C: Recorded>(edges: &[Edge<C>], preparations: &[Preparation]) -> Vec<records::Edge> {
     assert_eq!(edges.len(), preparations.len(), "one for each edge");
     let both = edges.iter().zip(preparations);
     both.map(|(edge, &preparation)| from_rust(edge, preparation))

@@ -126,7 +126,7 @@ fn curve(random: &mut Random) -> Curve {
 }
 
 /// A range in rising order; its ends are now and then equal or next to it.
-fn range(random: &mut Random) -> (f64, f64) {
+pub fn range(random: &mut Random) -> (f64, f64) {
     let (a, b) = (float(random), float(random));
     match random.below(16) {
         0 => (a, a),
@@ -196,13 +196,6 @@ pub fn lend_for(random: &mut Random, shell: &Shell, result: [usize; 3]) -> Lent 
         sizes[short] = sizes[short].saturating_sub(1);
     }
     Lent::holding(shell, sizes, random)
-}
-
-/// A random shell of any size.
-pub fn random(random: &mut Random) -> Lent {
-    let sizes = any_sizes(random);
-    let shell = shell(random, &sizes);
-    lend(random, &shell)
 }
 
 /// A good shell with one to three damages.

@@ -7,6 +7,7 @@ pub mod compare;
 pub mod describe;
 #[cfg(rust_at_hand)]
 pub mod differ;
+pub mod eighths;
 #[cfg(rust_at_hand)]
 pub mod healing;
 pub mod inputs;

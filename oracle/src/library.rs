@@ -1,7 +1,7 @@
 //! The archive, called through the binding's lower layer.
 
-use crate::port::{Cut, Join, Nearest, NearestCopy, Pass, Period, Port, Rows};
-use crate::port::{Search, Sort, Split, Unwrap, WireEnds, Wires};
+use crate::port::{Closed, Cut, CutParameter, Join, Nearest, NearestCopy, Pass, Period, Port};
+use crate::port::{Rows, Search, Sort, Split, Unwrap, WireEnds, Wires};
 use kaugrenna::raw;
 use kaugrenna::{Cuts, Divisor, Edges, EdgesMut, Room, Stretch, Tables, TablesMut, WiresMut};
 
@@ -52,7 +52,7 @@ fn wires(wires: Wires<'_>) -> kaugrenna::Wires<'_> {
     }
 }
 
-/// What the closed-edge pass is lent: the tables, the wires, the out places.
+/// What a call that cuts edges is lent: the tables, the wires, the out places.
 fn lent(pass: Pass<'_>) -> (TablesMut<'_>, WiresMut<'_>, [&mut usize; 3]) {
     let tables = TablesMut {
         vertex_numbers: pass.vertex_numbers,
@@ -80,9 +80,15 @@ fn stretches<'a>(uses: [&'a [u32]; 2], counts: [usize; 2]) -> [Stretch<'a>; 2] {
 }
 
 impl Port for Library {
-    fn split_closed_edges(&self, call: Pass<'_>) -> i32 {
-        let (tables, wires, out) = lent(call);
-        raw::split_closed_edges(tables, wires, out)
+    fn split_closed_edges(&self, call: Closed<'_>) -> i32 {
+        let (tables, wires, out) = lent(call.pass);
+        raw::split_closed_edges(tables, wires, call.k, out)
+    }
+
+    fn cut_parameter(&self, call: CutParameter, out: &mut [u64]) -> i32 {
+        let [t0, t1] = [call.t0, call.t1].map(f64::from_bits);
+        let [out] = places(floats_mut(out));
+        raw::cut_parameter(t0, t1, call.k, out)
     }
 
     fn get_mindiff(&self, call: Unwrap, out: &mut [u64]) -> i32 {

@@ -2,8 +2,10 @@
 //! answer written out by hand.
 
 pub mod arrays;
+mod eighths;
 pub mod ways;
 
+use crate::calls::split_closed_edges::SplitClosed;
 use crate::calls::tables::{Spoil, OF_PREPARATIONS};
 use crate::compare::{Case, Expected};
 use crate::random::Random;
@@ -15,7 +17,12 @@ use ways::{edge_float, edge_number, vertex_float, vertex_number};
 use ways::{spoiled, unharmed, words};
 
 /// All cases.
-pub fn cases() -> Vec<Case<Lent>> {
+pub fn cases() -> Vec<Case<SplitClosed>> {
+    of_shells().into_iter().chain(eighths::cases()).collect()
+}
+
+/// Those over shells: all but the cases of k.
+pub fn of_shells() -> Vec<Case<SplitClosed>> {
     [
         worked(),
         vec![
@@ -58,13 +65,14 @@ fn ring(before: &[&str], after: &[&str]) -> (Shell, Shell) {
 }
 
 /// The worked examples.
-pub fn worked() -> Vec<Case<Lent>> {
+pub fn worked() -> Vec<Case<SplitClosed>> {
     let ring_case = |name, before: &[&str], after: &[&str]| {
         let (before, after) = ring(before, after);
         done(name, &before, &after)
     };
     let no_edges = shell(&[ORIGIN], &[], &["", ""]);
     let nothing = Lent::poisoned([0; 6], &mut Random::new(0, 0, 0));
+    let nothing = SplitClosed::in_the_middle(nothing);
     vec![
         ring_case("K1", &["0+"], &["0+ 1+"]),
         ring_case("K2", &["0-"], &["1- 0-"]),
@@ -86,7 +94,7 @@ pub fn worked() -> Vec<Case<Lent>> {
 }
 
 /// Two closed edges and an open one between their vertices.
-fn two_rings() -> Case<Lent> {
+fn two_rings() -> Case<SplitClosed> {
     let (first, second) = (span(7, 0.0, 8.0), span(8, 1.0, 2.0));
     let bridge = edge(0, 1, span(9, 0.0, 1.0));
     let before = shell(
@@ -115,7 +123,7 @@ fn two_rings() -> Case<Lent> {
 
 /// A closed edge of each bevel beside an open one of each: both pieces have
 /// their edge's preparation, and the open edges keep theirs.
-fn prepared_rings() -> Case<Lent> {
+fn prepared_rings() -> Case<SplitClosed> {
     use Preparation::{DoubleBevel, SingleBevel};
     let (first, second) = (span(7, 0.0, 8.0), span(8, 1.0, 2.0));
     let open = [
@@ -156,7 +164,7 @@ fn prepared_rings() -> Case<Lent> {
 
 /// K1 with each cell written out, in buffers of just the result's length, and
 /// with an edge of a preparation.
-fn k1_cell_by_cell(name: &'static str, preparation: u32) -> Case<Lent> {
+fn k1_cell_by_cell(name: &'static str, preparation: u32) -> Case<SplitClosed> {
     let k = 77.0;
     let after = cells(
         (
@@ -171,17 +179,17 @@ fn k1_cell_by_cell(name: &'static str, preparation: u32) -> Case<Lent> {
     );
     Case {
         name,
-        input: k1_cells(preparation),
+        input: SplitClosed::in_the_middle(k1_cells(preparation)),
         expected: Expected {
             answer: 0,
             out: words([2, 2, 2]),
-            after,
+            after: SplitClosed::in_the_middle(after),
         },
     }
 }
 
 /// Where the middle of a range lies.
-fn middles() -> Vec<Case<Lent>> {
+fn middles() -> Vec<Case<SplitClosed>> {
     let cut = |name, t0: f64, middle: f64, t1: f64| {
         let whole = span(7, t0, t1);
         let before = shell(&[ORIGIN], &[edge(0, 0, whole)], &["0+"]);
@@ -200,14 +208,14 @@ fn middles() -> Vec<Case<Lent>> {
         cut("zero to negative zero", 0.0, 0.0, -0.0),
         cut("zero to the least float", 0.0, 0.0, tiny),
         cut("the least float to itself", tiny, tiny, tiny),
-        cut("the least float to its third", tiny, 1.0e-323, 1.5e-323),
+        cut("the least float to three of it", tiny, 1.0e-323, 1.5e-323),
         cut("greatest size on both sides", -1.0e15, 0.0, 1.0e15),
         cut("greatest size alone", 1.0e15, 1.0e15, 1.0e15),
     ]
 }
 
 /// Tables that are filled to their bounds.
-fn full_tables() -> Vec<Case<Lent>> {
+fn full_tables() -> Vec<Case<SplitClosed>> {
     let open = edge(0, 1, span(3, 0.0, 2.0));
     let closed = edge(1, 1, span(3, 0.0, 2.0));
     let wide = |vertices: usize, edges: &[Edge]| shell(&vec![ORIGIN; vertices], edges, &["0+"]);
@@ -231,7 +239,7 @@ fn full_tables() -> Vec<Case<Lent>> {
 }
 
 /// Uses and wires at their bounds.
-fn use_counts() -> Vec<Case<Lent>> {
+fn use_counts() -> Vec<Case<SplitClosed>> {
     let ring_of = |uses: usize| ring(&[&"0+ ".repeat(uses)], &[&"0+ 1+ ".repeat(uses)]);
     let (fits, fitting) = ring_of(512);
     let plenty = [100, 100, 100, 100, 4000, 100];
@@ -255,7 +263,7 @@ fn use_counts() -> Vec<Case<Lent>> {
 }
 
 /// Kind cells that hold no known kind.
-fn kinds() -> Vec<Case<Lent>> {
+fn kinds() -> Vec<Case<SplitClosed>> {
     vec![
         spoiled("kind 2 in an edge row", 1, edge_number(0, 2, 2)),
         spoiled("kind 2 in an unused edge row", 1, edge_number(2, 2, 2)),
@@ -278,10 +286,10 @@ fn kinds() -> Vec<Case<Lent>> {
 
 /// Preparation cells that hold no known preparation, and cells that are no
 /// input.
-fn preparations() -> Vec<Case<Lent>> {
+fn preparations() -> Vec<Case<SplitClosed>> {
     let refused =
         |(name, number, change): Spoil| spoiled(name, number, move |lent| change(&mut lent.tables));
-    let mut cases: Vec<Case<Lent>> = OF_PREPARATIONS.into_iter().map(refused).collect();
+    let mut cases: Vec<Case<SplitClosed>> = OF_PREPARATIONS.into_iter().map(refused).collect();
     cases.push(spoiled(
         "preparation 3 of an open edge",
         1,
@@ -296,7 +304,7 @@ fn preparations() -> Vec<Case<Lent>> {
 }
 
 /// Vertex and edge numbers at and past the counts.
-fn numbers() -> Vec<Case<Lent>> {
+fn numbers() -> Vec<Case<SplitClosed>> {
     vec![
         spoiled("front at the vertex count", 2, edge_number(0, 0, 3)),
         spoiled("back at the vertex count", 2, edge_number(0, 1, 3)),
@@ -316,7 +324,7 @@ fn numbers() -> Vec<Case<Lent>> {
 }
 
 /// Floats that are not numbers or too large.
-fn floats() -> Vec<Case<Lent>> {
+fn floats() -> Vec<Case<SplitClosed>> {
     let nan = f64::NAN;
     let above = f64::next_up(1.0e15);
     vec![
@@ -340,7 +348,7 @@ fn floats() -> Vec<Case<Lent>> {
 }
 
 /// Parameters out of order.
-fn parameters() -> Vec<Case<Lent>> {
+fn parameters() -> Vec<Case<SplitClosed>> {
     vec![
         spoiled("unused edge, t0 above t1", 5, edge_float(2, 4, 3.5)),
         spoiled("used edge, t0 above t1", 5, edge_float(0, 5, -0.5)),
@@ -354,7 +362,7 @@ fn parameters() -> Vec<Case<Lent>> {
 }
 
 /// Counts above what was lent.
-fn counts() -> Vec<Case<Lent>> {
+fn counts() -> Vec<Case<SplitClosed>> {
     let most = usize::MAX;
     vec![
         spoiled("largest vertex count", 1, move |lent| {
@@ -388,7 +396,7 @@ fn counts() -> Vec<Case<Lent>> {
 }
 
 /// Wire lengths whose sum is too large.
-fn lengths() -> Vec<Case<Lent>> {
+fn lengths() -> Vec<Case<SplitClosed>> {
     let long = |name, wires: usize, length: u32| {
         spoiled(name, 1, move |lent| {
             lent.uses.resize(1024, 0);
@@ -404,7 +412,7 @@ fn lengths() -> Vec<Case<Lent>> {
 }
 
 /// Buffers that hold the input and are one cell too short for the result.
-fn room() -> Vec<Case<Lent>> {
+fn room() -> Vec<Case<SplitClosed>> {
     let names = [
         "no room for a vertex number",
         "no room for a vertex float",
@@ -413,27 +421,27 @@ fn room() -> Vec<Case<Lent>> {
         "no room for a use",
     ];
     let short = |(buffer, name): (usize, &'static str)| {
-        let mut input = sample(name).input;
+        let mut lent = sample(name).input.lent;
         let mut sizes = needed([4, 4, 6], 3);
         sizes[buffer] -= 1;
-        input.shorten(sizes);
-        refused(name, 6, input)
+        lent.shorten(sizes);
+        refused(name, 6, lent)
     };
     let mut exact = sample("just enough room");
-    exact.input.shorten(needed([4, 4, 6], 3));
-    exact.expected.after.shorten(needed([4, 4, 6], 3));
-    let mut cases: Vec<Case<Lent>> = names.into_iter().enumerate().map(short).collect();
+    exact.input.lent.shorten(needed([4, 4, 6], 3));
+    exact.expected.after.lent.shorten(needed([4, 4, 6], 3));
+    let mut cases: Vec<Case<SplitClosed>> = names.into_iter().enumerate().map(short).collect();
     cases.push(exact);
     cases
 }
 
 /// Two causes at once: the lower number wins.
-fn lowest() -> Vec<Case<Lent>> {
+fn lowest() -> Vec<Case<SplitClosed>> {
     let both = |name, number, first: &dyn Fn(&mut Lent), second: &dyn Fn(&mut Lent)| {
-        let mut input = sample("").input;
-        first(&mut input);
-        second(&mut input);
-        refused(name, number, input)
+        let mut lent = sample("").input.lent;
+        first(&mut lent);
+        second(&mut lent);
+        refused(name, number, lent)
     };
     let kind = vertex_number(2, 0, 2);
     let front = edge_number(2, 0, 9);

@@ -8,7 +8,8 @@
 //! the plain implementation of this crate. Groups are `limits`, `small`,
 //! `random`, `damaged` and `noise`; `--only` names calls. With `--calls` (or
 //! `--each`) the random groups of each call go on until at least N of their
-//! inputs were compared; with `--seconds` all calls together take about S. Any
+//! inputs were compared; with `--seconds` all calls together take about S. Seven
+//! inputs of `cut_parameter` in a row are one range with each k from 1 to 7. Any
 //! difference makes the exit status 1; a run that cannot be made, 2.
 
 use oracle::compare::Tally;

@@ -1,7 +1,9 @@
 //! The refusals, written down from the table of the specification, with A.5 for
-//! preparations, and from nothing else: one function for each cause.
+//! preparations and A.3 for k, and from nothing else: one function for each
+//! cause.
 
 pub mod cut;
+pub mod eighths;
 pub mod join;
 pub mod near;
 pub mod search;

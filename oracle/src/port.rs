@@ -90,7 +90,7 @@ lent_on!(Pass: vertex_numbers, vertex_floats, edge_numbers, edge_floats, uses, l
 lent_on!(Join: uses, lengths, out);
 lent_on!(Split: edge_numbers, edge_floats, uses, lengths, out);
 
-/// What one call of `split_closed_edges` is lent. `out` has three places:
+/// What a call that cuts edges is lent: a shell. `out` has three places:
 /// vertices, edges and uses.
 pub struct Pass<'a> {
     pub vertex_numbers: &'a mut [u32],
@@ -136,6 +136,32 @@ impl Pass<'_> {
             wires: self.wires,
         }
     }
+}
+
+/// What one call of `split_closed_edges` is lent: a shell, and how many eighths
+/// of the way along its curve each closed edge is cut.
+pub struct Closed<'a> {
+    pub pass: Pass<'a>,
+    pub k: u32,
+}
+
+impl Closed<'_> {
+    /// The same call, lent on for a while.
+    pub fn again(&mut self) -> Closed<'_> {
+        Closed {
+            pass: self.pass.again(),
+            ..*self
+        }
+    }
+}
+
+/// What one call of `cut_parameter` is handed: a range, and how many eighths of
+/// the way from its first end to its last.
+#[derive(Clone, Copy, Debug, PartialEq, Eq)]
+pub struct CutParameter {
+    pub t0: u64,
+    pub t1: u64,
+    pub k: u32,
 }
 
 /// A period: its kind (0 absent, 1 there) and its size, which is no input
@@ -202,8 +228,8 @@ pub struct Search<'a> {
     pub out: &'a mut [u32],
 }
 
-/// What one call of `cut_edge_by_intersections` is lent: what the closed-edge
-/// pass is lent, and rows of four floats t, x, y, z with the edge they cut.
+/// What one call of `cut_edge_by_intersections` is lent: a shell, and rows of
+/// four floats t, x, y, z with the edge they cut.
 pub struct Cut<'a> {
     pub pass: Pass<'a>,
     pub cuts: &'a [u64],
@@ -291,7 +317,8 @@ pub trait Port: Sync {
         true
     }
 
-    fn split_closed_edges(&self, call: Pass<'_>) -> i32;
+    fn split_closed_edges(&self, call: Closed<'_>) -> i32;
+    fn cut_parameter(&self, call: CutParameter, out: &mut [u64]) -> i32;
     fn get_mindiff(&self, call: Unwrap, out: &mut [u64]) -> i32;
     fn nearest_copy(&self, call: NearestCopy, out: &mut [u64]) -> i32;
     fn boundary_type(&self, call: WireEnds, out: &mut [u32]) -> i32;

@@ -1,8 +1,10 @@
-//! A plain implementation of the calls. It is no part of the comparison's
-//! truth: it shows that a right port is found right, and, with one step
-//! replaced by a wrong one, that a wrong port is found wrong.
+//! A plain implementation of the calls. It is not the comparison's truth,
+//! although a pass by a k other than 4 must come out as here too: it shows that
+//! a right port is found right, and, with one step replaced by a wrong one, that
+//! a wrong port is found wrong.
 
 pub mod cut;
+pub mod eighths;
 pub mod join;
 pub mod near;
 pub mod pass;
@@ -10,13 +12,14 @@ pub mod search;
 pub mod split;
 pub mod tables;
 
-use crate::port::{Cut, Join, Nearest, NearestCopy, Pass, Port};
+use crate::port::{Closed, Cut, CutParameter, Join, Nearest, NearestCopy, Port};
 use crate::port::{Search, Sort, Split, Unwrap, WireEnds};
 
 /// The steps of the calls, each of which can be replaced.
 #[derive(Clone, Copy, Default)]
 pub struct Reference {
     pub tables: tables::Steps,
+    pub eighths: eighths::Steps,
     pub pass: pass::Steps,
     pub near: near::Steps,
     pub search: search::Steps,
@@ -26,8 +29,12 @@ pub struct Reference {
 }
 
 impl Port for Reference {
-    fn split_closed_edges(&self, call: Pass<'_>) -> i32 {
+    fn split_closed_edges(&self, call: Closed<'_>) -> i32 {
         pass::split_closed_edges(self, call)
+    }
+
+    fn cut_parameter(&self, call: CutParameter, out: &mut [u64]) -> i32 {
+        self.eighths.cut_parameter(call, out)
     }
 
     fn get_mindiff(&self, call: Unwrap, out: &mut [u64]) -> i32 {

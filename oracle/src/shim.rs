@@ -3,6 +3,7 @@
 //! The half that is compared works on numbers and ranges; what needs real
 //! curves and surfaces is the host's and is not reached, and says so if it is.
 
+use crate::eighths;
 use crate::records::{Curve, Vertex};
 use std::marker::PhantomData;
 use std::ops::{Add, Deref, Div, Index};
@@ -243,6 +244,60 @@ impl<P: Place> Cut for On<P> {
         let behind = On::from(self.curve.over(t, t1));
         self.curve = self.curve.over(t0, t);
         behind
+    }
+}
+
+/// A curve record that names the parameter k eighths of the way along it for
+/// both ends of its range: whoever takes the middle of the two is there.
+#[derive(Clone, Copy, Debug, PartialEq)]
+pub struct Eighths<P> {
+    on: On<P>,
+    k: u32,
+}
+
+impl<P> Eighths<P> {
+    pub fn of(curve: Curve, k: u32) -> Self {
+        let on = On::from(curve);
+        Eighths { on, k }
+    }
+}
+
+impl<P: Place> ParametricCurve for Eighths<P> {
+    type Point = P;
+    fn subs(&self, t: f64) -> P {
+        self.on.subs(t)
+    }
+}
+
+impl<P: Place> BoundedCurve for Eighths<P> {
+    fn range_tuple(&self) -> (f64, f64) {
+        let (t0, t1) = self.on.range_tuple();
+        let t = eighths::parameter(t0, t1, self.k);
+        (t, t)
+    }
+}
+
+impl<P: Place> Cut for Eighths<P> {
+    fn cut(&mut self, t: f64) -> Self {
+        let (on, k) = (self.on.cut(t), self.k);
+        Eighths { on, k }
+    }
+}
+
+/// A curve that stands for a record.
+pub trait Recorded {
+    fn record(&self) -> Curve;
+}
+
+impl<P> Recorded for On<P> {
+    fn record(&self) -> Curve {
+        self.curve
+    }
+}
+
+impl<P> Recorded for Eighths<P> {
+    fn record(&self) -> Curve {
+        self.on.curve
     }
 }
 

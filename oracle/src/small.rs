@@ -1,8 +1,10 @@
 //! Every small shell: up to two vertices, two edges with all ends and kinds and
 //! with two of the three preparations in turn, two wires with up to three uses
 //! in all orders; for the closed-edge pass each in buffers of just the result's
-//! length, and with each buffer in turn one cell shorter.
+//! length, and with each buffer in turn one cell shorter, cut in the middle; and
+//! each with other values of k in turn.
 
+use crate::calls::split_closed_edges::SplitClosed;
 use crate::random::Random;
 use crate::records::{Curve, Edge, Preparation, Shell, Vertex};
 use crate::shell::{needed, Lent};
@@ -12,7 +14,7 @@ const MOST_USES: usize = 3;
 
 /// Shows every small input of the closed-edge pass to the visitor, until it
 /// answers false.
-pub fn each(visit: &mut dyn FnMut(&Lent) -> bool) {
+pub fn each(visit: &mut dyn FnMut(&SplitClosed) -> bool) {
     each_shell(&mut |shell, turn| each_room(shell, turn, visit));
 }
 
@@ -43,7 +45,7 @@ pub fn each_shell(visit: &mut dyn FnMut(&Shell, usize) -> bool) {
 }
 
 /// Shows one shell in all its buffers.
-fn each_room(shell: &Shell, turn: usize, visit: &mut dyn FnMut(&Lent) -> bool) -> bool {
+fn each_room(shell: &Shell, turn: usize, visit: &mut dyn FnMut(&SplitClosed) -> bool) -> bool {
     let closed = |number: u32| {
         let edge = &shell.edges[number as usize];
         edge.front == edge.back
@@ -58,15 +60,31 @@ fn each_room(shell: &Shell, turn: usize, visit: &mut dyn FnMut(&Lent) -> bool) -
     let result = [vertices + more, edges + more, uses + doubled.count()];
     let sizes = needed(result, shell.wires.len());
     let lent = Lent::holding(shell, sizes, &mut Random::new(0, 0, turn as u64));
-    if !visit(&lent) {
-        return false;
-    }
-    (0..6).filter(|&short| sizes[short] > 0).all(|short| {
-        let (mut less, mut shorter) = (sizes, lent.clone());
+    let input = SplitClosed::in_the_middle(lent);
+    let shorter = |short: usize| {
+        let (mut less, mut shorter) = (sizes, input.clone());
         less[short] -= 1;
-        shorter.shorten(less);
-        visit(&shorter)
-    })
+        shorter.lent.shorten(less);
+        shorter
+    };
+    let filled: Vec<usize> = (0..6).filter(|&short| sizes[short] > 0).collect();
+    let mut some = vec![input.clone()];
+    some.extend(filled.get(turn % 6).map(|&short| shorter(short)));
+    let mut with = |k: u32| {
+        let mut inputs = some.iter().cloned();
+        inputs.all(|input| visit(&SplitClosed { k, ..input }))
+    };
+    each_k(turn).into_iter().all(&mut with)
+        && visit(&input)
+        && filled.iter().all(|&short| visit(&shorter(short)))
+}
+
+/// A k away from the middle and one that may not be handed in, in turn.
+fn each_k(turn: usize) -> [u32; 2] {
+    let away = [1, 2, 3, 5, 6, 7];
+    let unknown = [0, 8, 260, (1 << 31) + 4, u32::MAX];
+    let round = turn / RANGES.len();
+    [away[round % away.len()], unknown[turn % unknown.len()]]
 }
 
 /// The wire lengths: up to two wires with all uses that are allowed.

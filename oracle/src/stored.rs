@@ -5,8 +5,9 @@
 //! of the call, its plain arguments, for each slice its length and its cells,
 //! the answer, the out values (0 where there is no result), and for each slice
 //! that may be written to its cells afterwards. In the records of call 1 the
-//! lengths of all slices come first and the cells of all behind them. The word
-//! 0 ends the list.
+//! lengths of all slices come first and the cells of all behind them; its plain
+//! arguments are three counts and k, which is 4 in all of them. The word 0 ends
+//! the list.
 //!
 //! Behind it stands a second list, of altered records, which the word 0 ends
 //! too. In each of them one bit is another than the Rust's: of the answer, of
@@ -30,11 +31,11 @@ use crate::calls::find_divisor::FindDivisor;
 use crate::calls::join_wires::JoinWires;
 use crate::calls::nearest_correction::NearestEnds;
 use crate::calls::sort_wires::SortWires;
+use crate::calls::split_closed_edges::SplitClosed;
 use crate::calls::split_wires::SplitWires;
 use crate::cells::Cells;
 use crate::compare::{difference, untouched, Expected, Input, Tally};
 use crate::port::{NearestCopy, Port, Unwrap, WireEnds};
-use crate::shell::Lent;
 
 #[cfg(rust_at_hand)]
 mod altered;
@@ -54,7 +55,7 @@ const MOST_CELLS: usize = 64;
 
 /// Whether the lengths of all slices come first.
 fn lengths_first<I: Input>() -> bool {
-    I::NUMBER == Lent::NUMBER
+    I::NUMBER == SplitClosed::NUMBER
 }
 
 /// A file that is being read.
@@ -144,7 +145,7 @@ impl Reader<'_> {
         loop {
             match self.word()? {
                 0 => return Ok(()),
-                Lent::NUMBER => self.judge::<Lent>(run)?,
+                SplitClosed::NUMBER => self.judge::<SplitClosed>(run)?,
                 Unwrap::NUMBER => self.judge::<Unwrap>(run)?,
                 NearestCopy::NUMBER => self.judge::<NearestCopy>(run)?,
                 WireEnds::NUMBER => self.judge::<WireEnds>(run)?,

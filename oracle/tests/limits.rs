@@ -6,12 +6,12 @@ use oracle::calls::find_divisor::FindDivisor;
 use oracle::calls::join_wires::JoinWires;
 use oracle::calls::nearest_correction::NearestEnds;
 use oracle::calls::sort_wires::SortWires;
+use oracle::calls::split_closed_edges::SplitClosed;
 use oracle::calls::split_wires::SplitWires;
 use oracle::calls::Families;
 use oracle::compare::difference;
-use oracle::port::{NearestCopy, Unwrap, WireEnds};
+use oracle::port::{CutParameter, NearestCopy, Unwrap, WireEnds};
 use oracle::reference::Reference;
-use oracle::shell::Lent;
 use std::collections::BTreeSet;
 
 /// The cases of preparations that every call over edges has.
@@ -58,7 +58,7 @@ fn hold<I: Families + std::fmt::Debug>(wanted: &[&str]) {
 
 #[test]
 fn split_closed_edges() {
-    hold::<Lent>(&with_preparations(&[
+    hold::<SplitClosed>(&with_preparations(&[
         "K1",
         "K2",
         "K3",
@@ -82,7 +82,46 @@ fn split_closed_edges() {
         "a single bevel cell by cell",
         "a double bevel cell by cell",
         "closed and open edges of both bevels",
+        "K1 and K2 with k 1",
+        "negative zero to itself, k 1",
+        "negative zero to itself, k 4",
+        "the least float to its double, k 3",
+        "the least float to its double, k 4",
+        "the greatest sizes, k 7",
+        "the greatest size to itself, k 1",
+        "k 0",
+        "k 8",
+        "the largest k",
+        "k 0 and no closed edge",
+        "k 0 and nothing lent",
+        "4096 vertices, one closed edge, k 0",
+        "4096 edges, none closed, k 0",
+        "18 before 6, no room for a use",
+        "1 before 18",
+        "2 before 18",
+        "3 before 18",
+        "4 before 18",
+        "5 before 18",
     ]));
+}
+
+#[test]
+fn cut_parameter() {
+    hold::<CutParameter>(&[
+        "0 to 8, k 1",
+        "negative zero to itself, k 1",
+        "negative zero to itself, k 4",
+        "the least float to its double, k 1",
+        "the least float to its double, k 7",
+        "the greatest sizes, k 1",
+        "the greatest size, k 3",
+        "a tenth, k 5",
+        "k 0",
+        "k 8",
+        "the largest k",
+        "5 before 18",
+        "4 before 18",
+    ]);
 }
 
 #[test]

@@ -2,14 +2,14 @@
 //! are put where the library stands, and every one of them must be found.
 
 use crate::runs::do_not_differ;
-use crate::wrong::{cut, join, lists, pass, split, Mutant};
+use crate::wrong::{cut, eighths, join, lists, pass, split, Mutant};
+use oracle::calls::split_closed_edges::SplitClosed;
 use oracle::calls::split_wires::SplitWires;
 use oracle::calls::Families;
 use oracle::compare::breach;
 use oracle::differ::{Group, Plan, Runner, CALLS};
-use oracle::port::Port;
+use oracle::port::{CutParameter, Port};
 use oracle::reference::Reference;
-use oracle::shell::Lent;
 
 /// A run that is short enough, with so many calls in each random group.
 fn plan(calls: usize) -> Plan {
@@ -81,7 +81,12 @@ fn the_small_group_finds_every_wrong_result() {
         pass::wrong_vertices(),
         pass::wrong_preparations(),
         pass::wrong_cells_of_preparations(),
-        pass::wrong_middles(),
+        eighths::wrong_middles(),
+        eighths::wrong_keeping(),
+        eighths::wrong_bounds(),
+        eighths::wrong_ks(),
+        pass::wrong_places(),
+        pass::wrong_sight_of_k(),
     ];
     for (name, port) in wrong.into_iter().flatten() {
         let found = found_after(port.as_ref(), call("split_closed_edges"), Group::Small, 0);
@@ -90,6 +95,12 @@ fn the_small_group_finds_every_wrong_result() {
         let out_of_reach = name == "only the first edges cut";
         assert!(found.is_some() != out_of_reach, "{name}");
     }
+}
+
+#[test]
+fn every_wrong_parameter_is_found() {
+    let name = "cut_parameter";
+    all_found(name, &TRIES, lists(name));
 }
 
 #[test]
@@ -143,15 +154,35 @@ fn the_small_group_finds_every_wrong_split() {
     all_found(name, &SMALL, split::wrong_results());
 }
 
+/// That no parameter leaves its range finds these without any other word.
+#[test]
+fn the_range_alone_finds_parameters_outside() {
+    for (what, port) in eighths::wrong_bounds() {
+        let found = [
+            first_breach::<CutParameter>(port.as_ref()),
+            first_breach::<SplitClosed>(port.as_ref()),
+        ];
+        println!("{what}: {found:?}");
+        assert!(found.iter().all(Option::is_some), "{what} was not found");
+    }
+}
+
+/// What the small inputs of a call find to be broken of what holds of every
+/// answer.
+fn first_breach<I: Families>(port: &dyn Port) -> Option<&'static str> {
+    let mut found = None;
+    I::small(&mut |input| {
+        found = breach(port, input);
+        found.is_none()
+    });
+    found
+}
+
 /// What holds of every split finds these without any word of the Rust.
 #[test]
 fn demand_3_alone_finds_wrong_splits() {
     for (what, port) in split::wrong_tallies() {
-        let mut found = None;
-        SplitWires::small(&mut |input| {
-            found = breach(port.as_ref(), input);
-            found.is_none()
-        });
+        let found = first_breach::<SplitWires>(port.as_ref());
         println!("{what}: {found:?}");
         assert!(found.is_some(), "{what} was not found");
     }
@@ -182,9 +213,9 @@ fn the_small_group_finds_every_wrong_cut_and_join() {
 
 #[test]
 fn random_inputs_are_the_same_for_the_same_seed() {
-    let make = |index| oracle::inputs::random(&mut oracle::random::Random::new(3, 0, index));
+    let make = |index| SplitClosed::random(&mut oracle::random::Random::new(3, 0, index));
     assert!((0..50).all(|index| make(index) == make(index)));
     assert!((0..50).any(|index| make(index) != make(index + 1)));
-    let expected = |index| Lent::expected(&make(index));
+    let expected = |index| SplitClosed::expected(&make(index));
     assert!((0..50).all(|index| expected(index) == expected(index)));
 }

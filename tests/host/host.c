@@ -1,9 +1,9 @@
 /*
- * A host in C: worked cases of document 01 and preparations of edges through
- * the header and the archive, and what the header defines. Every slice is a
- * block of just its size, so that a tool that watches memory sees a step
- * beyond it. A line for each case, and one for a refusal; the exit status is 1
- * where a case is not the same.
+ * A host in C: worked cases of document 01, cuts at every eighth and
+ * preparations of edges through the header and the archive, and what the
+ * header defines. Every slice is a block of just its size, so that a tool that
+ * watches memory sees a step beyond it. A line for each case, and one for a
+ * refusal; the exit status is 1 where a case is not the same.
  */
 #include "kaugrenna.h"
 
@@ -74,49 +74,131 @@ static void header(void) {
     tell("uses", FORWARD(3) == 6 && REVERSED(3) == 7 && KAUGRENNA_EDGE(7) == 3 &&
                      KAUGRENNA_REVERSED(7) == 1 && KAUGRENNA_REVERSED(6) == 0 &&
                      largest == UINT32_MAX && KAUGRENNA_EDGE(largest) == 2147483647u);
+    /* All codes but 16 and 17, which no call answers, have a text of their own. */
     int other = 0;
-    for (int32_t code = -1; code <= KAUGRENNA_EMPTY_OPEN_WIRE; code++) {
-        other += strcmp(kaugrenna_text(code), kaugrenna_text(16)) != 0;
+    for (int32_t code = -1; code <= KAUGRENNA_EIGHTHS_OUT_OF_RANGE; code++) {
+        other += strcmp(kaugrenna_text(code), kaugrenna_text(MARK)) != 0;
     }
-    tell("texts", other == 17 && strcmp(kaugrenna_text(-2), kaugrenna_text(16)) == 0);
+    tell("texts", other == 18 && strcmp(kaugrenna_text(-2), kaugrenna_text(MARK)) == 0);
 }
 
-/* K1: the square edge (0, 0) with span 7 from 0 to 8, wire 0+. */
-static void k1(void) {
-    const uint32_t given_vertices[VERTEX_NUMBERS(2)] = {KAUGRENNA_GIVEN};
-    const double given_points[VERTEX_FLOATS(2)] = {0};
-    const uint32_t given_edges[EDGE_NUMBERS(2)] = {0, 0, SQUARE_SPAN(7), EDGE_MARKS};
-    const double given_floats[EDGE_FLOATS(2)] = {0, 0, 0, 0, 0, 8};
-    const uint32_t given_uses[2] = {FORWARD(0), MARK}, given_lengths[1] = {1};
-    uint32_t *vn = COPY(given_vertices), *en = COPY(given_edges);
-    uint32_t *us = COPY(given_uses), *ls = COPY(given_lengths);
-    double *vf = COPY(given_points), *ef = COPY(given_floats);
-    size_t v = MARK, e = MARK, n = MARK;
-    int32_t code = kaugrenna_split_closed_edges(
-        LEND(vn, given_vertices), LEND(vf, given_points), LEND(en, given_edges),
-        LEND(ef, given_floats), LEND(us, given_uses), LEND(ls, given_lengths), 1, 1, 1, &v, &e, &n);
+/* K1: the square edge (0, 0) with span 7 from 0 to 8 and the wire 0+, and room for the cut. */
+static const uint32_t K1_VERTICES[VERTEX_NUMBERS(2)] = {KAUGRENNA_GIVEN};
+static const double K1_POINTS[VERTEX_FLOATS(2)];
+static const uint32_t K1_EDGES[EDGE_NUMBERS(2)] = {0, 0, SQUARE_SPAN(7), EDGE_MARKS};
+static const double K1_FLOATS[EDGE_FLOATS(2)] = {0, 0, 0, 0, 0, 8};
+static const uint32_t K1_USES[2] = {FORWARD(0), MARK};
+static const uint32_t K1_LENGTHS[1] = {1};
+
+/* What is lent of K1, and the places for counts of vertices, edges and uses. */
+struct k1 {
+    uint32_t *vn, *en, *us, *ls;
+    double *vf, *ef;
+    size_t v, e, n;
+};
+
+static struct k1 lend_k1(void) {
+    struct k1 s;
+    s.vn = COPY(K1_VERTICES), s.vf = COPY(K1_POINTS);
+    s.en = COPY(K1_EDGES), s.ef = COPY(K1_FLOATS);
+    s.us = COPY(K1_USES), s.ls = COPY(K1_LENGTHS);
+    s.v = s.e = s.n = MARK;
+    return s;
+}
+
+static void free_k1(struct k1 s) {
+    free(s.vn), free(s.vf), free(s.en), free(s.ef), free(s.us), free(s.ls);
+}
+
+/* The pass over K1, with so many rows for the numbers of vertices. */
+static int32_t pass(struct k1 *s, size_t rows, uint32_t k) {
+    return kaugrenna_split_closed_edges(s->vn, VERTEX_NUMBERS(rows), LEND(s->vf, K1_POINTS),
+                                        LEND(s->en, K1_EDGES), LEND(s->ef, K1_FLOATS),
+                                        LEND(s->us, K1_USES), LEND(s->ls, K1_LENGTHS), 1, 1, 1, k,
+                                        &s->v, &s->e, &s->n);
+}
+
+static int is_kept(const struct k1 *s) {
+    return s->v == MARK && s->e == MARK && s->n == MARK && SAME(s->vn, K1_VERTICES) &&
+           SAME(s->vf, K1_POINTS) && SAME(s->en, K1_EDGES) && SAME(s->ef, K1_FLOATS) &&
+           SAME(s->us, K1_USES) && SAME(s->ls, K1_LENGTHS);
+}
+
+/* Whether the edge is cut at t, and the new vertex is pending there. */
+static int is_cut(const struct k1 *s, double t) {
     const uint32_t vertices[] = {KAUGRENNA_GIVEN, 0, 0, KAUGRENNA_PENDING, KAUGRENNA_SPAN, 7};
+    const double points[] = {0, 0, 0, 0, 0, 0, 0, 0, 0, 0, 0, 0, 8, t};
     const uint32_t edges[] = {0, 1, SQUARE_SPAN(7), 1, 0, SQUARE_SPAN(7)};
-    const double floats[] = {0, 0, 0, 0, 0, 4, 0, 0, 0, 0, 4, 8};
-    const double points[] = {0, 0, 0, 0, 0, 0, 0, 0, 0, 0, 0, 0, 8, 4};
+    const double floats[] = {0, 0, 0, 0, 0, t, 0, 0, 0, 0, t, 8};
     const uint32_t uses[] = {FORWARD(0), FORWARD(1)}, lengths[] = {2};
-    tell("K1", code == KAUGRENNA_DONE && v == 2 && e == 2 && n == 2 && SAME(vn, vertices) &&
-                   SAME(vf, points) && SAME(en, edges) && SAME(ef, floats) && SAME(us, uses) &&
-                   SAME(ls, lengths));
-    /* One row less is 6, and nothing changes. */
-    RESTORE(vn, given_vertices), RESTORE(vf, given_points), RESTORE(en, given_edges);
-    RESTORE(ef, given_floats), RESTORE(us, given_uses), RESTORE(ls, given_lengths);
-    v = e = n = MARK;
-    code = kaugrenna_split_closed_edges(vn, VERTEX_NUMBERS(1), LEND(vf, given_points),
-                                        LEND(en, given_edges), LEND(ef, given_floats),
-                                        LEND(us, given_uses), LEND(ls, given_lengths), 1, 1, 1, &v,
-                                        &e, &n);
-    tell("no room", code == KAUGRENNA_NO_ROOM && v == MARK && e == MARK && n == MARK &&
-                        SAME(vn, given_vertices) && SAME(vf, given_points) &&
-                        SAME(en, given_edges) && SAME(ef, given_floats) && SAME(us, given_uses) &&
-                        SAME(ls, given_lengths));
+    return s->v == 2 && s->e == 2 && s->n == 2 && SAME(s->vn, vertices) && SAME(s->vf, points) &&
+           SAME(s->en, edges) && SAME(s->ef, floats) && SAME(s->us, uses) && SAME(s->ls, lengths);
+}
+
+/* K1, and the edge cut at each eighth of its curve. */
+static void k1(void) {
+    for (uint32_t k = 1; k <= 7; k++) {
+        struct k1 s = lend_k1();
+        int32_t code = pass(&s, 2, k);
+        tell(k == KAUGRENNA_MIDDLE ? "K1" : "K1 cut elsewhere",
+             code == KAUGRENNA_DONE && is_cut(&s, k));
+        free_k1(s);
+    }
+}
+
+/* What the pass over K1 refuses: nothing changes. */
+static void k1_refused(void) {
+    const uint32_t none[] = {0, 8, UINT32_MAX};
+    struct k1 s = lend_k1();
+    int32_t code = pass(&s, 1, KAUGRENNA_MIDDLE);
+    tell("no room", code == KAUGRENNA_NO_ROOM && is_kept(&s));
     printf("refused (%ld): %s\n", (long)code, kaugrenna_text(code));
-    free(vn), free(vf), free(en), free(ef), free(us), free(ls);
+    for (size_t i = 0; i < COUNT(none); i++) {
+        /* Without room too, and behind the causes 1 to 5. */
+        int32_t with = pass(&s, 2, none[i]), without = pass(&s, 1, none[i]);
+        tell("no eighths",
+             with == KAUGRENNA_EIGHTHS_OUT_OF_RANGE && without == with && is_kept(&s));
+        s.us[0] = FORWARD(1);
+        tell("no edge", pass(&s, 2, none[i]) == KAUGRENNA_EDGE_NUMBER);
+        s.us[0] = FORWARD(0);
+    }
+    free_k1(s);
+}
+
+/* Whether this is the parameter, to the bit: 0.0 is not -0.0. */
+static int is_parameter(double t0, double t1, uint32_t k, double expected) {
+    double t = MARK;
+    return kaugrenna_cut_parameter(t0, t1, k, &t) == KAUGRENNA_DONE &&
+           memcmp(&t, &expected, sizeof t) == 0;
+}
+
+/* Whether the parameter is refused with this code, and its place keeps what it held. */
+static int is_refused(double t0, double t1, uint32_t k, int32_t code) {
+    double t = MARK;
+    return kaugrenna_cut_parameter(t0, t1, k, &t) == code && t == MARK;
+}
+
+/* Where the pass cuts: on a length of 8, on both sides of 0, on no length, and on one step. */
+static void parameters(void) {
+    const double unit = 5e-324;
+    for (uint32_t k = 1; k <= 7; k++) {
+        tell("parameter", is_parameter(0, 8, k, k) &&
+                              is_parameter(-1e15, 1e15, k, 2.5e14 * k - 1e15) &&
+                              is_parameter(-0.1, -0.1, k, -0.1) &&
+                              is_parameter(unit, 2 * unit, k, k < 4 ? unit : 2 * unit) &&
+                              is_parameter(-0.0, -0.0, k, k == KAUGRENNA_MIDDLE ? -0.0 : 0.0));
+    }
+}
+
+static void parameters_refused(void) {
+    const uint32_t none[] = {0, 8, UINT32_MAX};
+    for (size_t i = 0; i < COUNT(none); i++) {
+        tell("no parameter", is_refused(0, 8, none[i], KAUGRENNA_EIGHTHS_OUT_OF_RANGE) &&
+                                 is_refused(8, 0, none[i], KAUGRENNA_OUT_OF_RANGE) &&
+                                 is_refused(0, HUGE_VAL, none[i], KAUGRENNA_NOT_SIZED) &&
+                                 is_refused(8, -1.1e15, none[i], KAUGRENNA_NOT_SIZED) &&
+                                 is_refused(NAN, 0, none[i], KAUGRENNA_NOT_SIZED));
+    }
 }
 
 /* Edge 1 = (1, 0) from 0 to 2 with double bevel, beside one with single bevel, cut at 1 by
@@ -293,7 +375,8 @@ static void bevelled_rims(void) {
     size_t v = MARK, e = MARK, n = MARK;
     int32_t code = kaugrenna_split_closed_edges(
         LEND(vn, given_vertices), LEND(vf, given_points), LEND(en, given_edges),
-        LEND(ef, given_floats), LEND(us, given_uses), LEND(ls, given_lengths), 2, 2, 2, &v, &e, &n);
+        LEND(ef, given_floats), LEND(us, given_uses), LEND(ls, given_lengths), 2, 2, 2,
+        KAUGRENNA_MIDDLE, &v, &e, &n);
     tell("no preparation", code == KAUGRENNA_MALFORMED && v == MARK && e == MARK && n == MARK &&
                                SAME(vn, given_vertices) && SAME(vf, given_points) &&
                                SAME(en, given_edges) && SAME(ef, given_floats) &&
@@ -302,7 +385,8 @@ static void bevelled_rims(void) {
     en[EDGE_NUMBERS(2) - 1] = KAUGRENNA_SINGLE_BEVEL;
     code = kaugrenna_split_closed_edges(
         LEND(vn, given_vertices), LEND(vf, given_points), LEND(en, given_edges),
-        LEND(ef, given_floats), LEND(us, given_uses), LEND(ls, given_lengths), 2, 2, 2, &v, &e, &n);
+        LEND(ef, given_floats), LEND(us, given_uses), LEND(ls, given_lengths), 2, 2, 2,
+        KAUGRENNA_MIDDLE, &v, &e, &n);
     const uint32_t edges[] = {CUT_RIMS};
     const uint32_t pending[] = {KAUGRENNA_PENDING, KAUGRENNA_SPAN, 0,
                                 KAUGRENNA_PENDING, KAUGRENNA_SPAN, 1};
@@ -336,6 +420,9 @@ static void square_seam(void) {
 int main(void) {
     header();
     k1();
+    k1_refused();
+    parameters();
+    parameters_refused();
     one_cut();
     numbers();
     search();

@@ -5,6 +5,9 @@ use crate::lent::{Tables, TablesMut, Wires, WiresMut};
 use crate::raw::{self, DONE, NONE};
 use crate::refusal::Refusal;
 
+/// The number of eighths to the middle of a curve.
+pub const MIDDLE: u32 = 4;
+
 /// A period; a surface that does not repeat itself has none.
 pub type Period = Option<f64>;
 
@@ -71,14 +74,15 @@ fn found(code: i32) -> Result<bool, Refusal> {
     done(code).map(|()| true)
 }
 
-/// Cuts every edge with equal ends at the middle of its curve, and mends every
-/// wire, in place. Both pieces have the preparation of the edge that was cut.
+/// Cuts every edge with equal ends k eighths of the way along its curve, k from
+/// 1 to 7, and mends every wire, in place. Both pieces have the preparation of
+/// the edge that was cut; [`cut_parameter`] answers where it is cut.
 ///
 /// K1 of document 01, the square edge (0, 0) with span 7 from 0 to 8 and wire
-/// 0+:
+/// 0+, cut at the middle:
 ///
 /// ```
-/// use kaugrenna::{split_closed_edges, Counts, TablesMut, WiresMut};
+/// use kaugrenna::{split_closed_edges, Counts, TablesMut, WiresMut, MIDDLE};
 ///
 /// let (mut vertex_numbers, mut vertex_floats) = ([0; 6], [0.0; 14]);
 /// let mut edge_numbers = [0, 0, 0, 7, 0, 0, 0, 0, 0, 0];
@@ -94,16 +98,35 @@ fn found(code: i32) -> Result<bool, Refusal> {
 ///     edges: 1,
 /// };
 /// let wires = WiresMut { uses: &mut uses, lengths: &mut lengths, count: 1 };
-/// let counts = split_closed_edges(tables, wires)?;
+/// let counts = split_closed_edges(tables, wires, MIDDLE)?;
 /// assert_eq!(counts, Counts { vertices: 2, edges: 2, uses: 2 });
 /// assert_eq!(edge_numbers, [0, 1, 0, 7, 0, 1, 0, 0, 7, 0]);
+/// assert_eq!((edge_floats[5], edge_floats[10], vertex_floats[13]), (4.0, 4.0, 4.0));
 /// assert_eq!((uses, lengths), ([0, 2], [2]));
 /// # Ok::<(), kaugrenna::Refusal>(())
 /// ```
-pub fn split_closed_edges(tables: TablesMut<'_>, wires: WiresMut<'_>) -> Result<Counts, Refusal> {
+pub fn split_closed_edges(
+    tables: TablesMut<'_>,
+    wires: WiresMut<'_>,
+    k: u32,
+) -> Result<Counts, Refusal> {
     let mut counts = Counts::default();
     let out = [&mut counts.vertices, &mut counts.edges, &mut counts.uses];
-    done(raw::split_closed_edges(tables, wires, out)).map(|()| counts)
+    done(raw::split_closed_edges(tables, wires, k, out)).map(|()| counts)
+}
+
+/// The parameter k eighths of the way from t0 to t1, k from 1 to 7, at which
+/// [`split_closed_edges`] cuts a curve; it is never outside t0 to t1.
+///
+/// ```
+/// use kaugrenna::{cut_parameter, Refusal, MIDDLE};
+/// assert_eq!(cut_parameter(0.0, 8.0, 1), Ok(1.0));
+/// assert_eq!(cut_parameter(0.0, 8.0, MIDDLE), Ok(4.0));
+/// assert_eq!(cut_parameter(0.0, 8.0, 8), Err(Refusal::EighthsOutOfRange));
+/// ```
+pub fn cut_parameter(t0: f64, t1: f64, k: u32) -> Result<f64, Refusal> {
+    let mut t = 0.0;
+    done(raw::cut_parameter(t0, t1, k, &mut t)).map(|()| t)
 }
 
 /// Cuts edge number `edge` at a parameter and point, and mends every wire, in
@@ -253,7 +276,7 @@ mod tests {
 
     #[test]
     fn codes_that_are_not_known() {
-        for code in [16, -2, i32::MAX, i32::MIN] {
+        for code in [16, 17, 19, -2, i32::MAX, i32::MIN] {
             assert_eq!(done(code), Err(Refusal::Unknown(code)));
             assert_eq!(found(code), Err(Refusal::Unknown(code)));
         }

@@ -43,8 +43,14 @@ macro_rules! ask {
     };
 }
 
-/// Cuts every closed edge. `out`: vertices, edges, uses.
-pub fn split_closed_edges(tables: TablesMut<'_>, wires: WiresMut<'_>, out: [&mut usize; 3]) -> i32 {
+/// Cuts every closed edge, k eighths of the way along its curve. `out`:
+/// vertices, edges, uses.
+pub fn split_closed_edges(
+    tables: TablesMut<'_>,
+    wires: WiresMut<'_>,
+    k: u32,
+    out: [&mut usize; 3],
+) -> i32 {
     let [vertices_out, edges_out, uses_out] = out;
     // SAFETY: all six slices and the three places are `&mut` of their own.
     unsafe {
@@ -58,11 +64,18 @@ pub fn split_closed_edges(tables: TablesMut<'_>, wires: WiresMut<'_>, out: [&mut
             tables.vertices,
             tables.edges,
             wires.count,
+            k,
             vertices_out,
             edges_out,
             uses_out
         ))
     }
+}
+
+/// The parameter k eighths of the way from t0 to t1.
+pub fn cut_parameter(t0: f64, t1: f64, k: u32, t_out: &mut f64) -> i32 {
+    // SAFETY: the one place is a `&mut`.
+    unsafe { c::kaugrenna_cut_parameter(t0, t1, k, t_out) }
 }
 
 /// Cuts edge number `edge`. `out`: vertices, edges, uses.

@@ -53,6 +53,8 @@ pub enum Refusal {
     SeveralCuts,
     /// 15: an open wire handed to a join is empty.
     EmptyOpenWire,
+    /// 18: the number of eighths is outside 1 to 7.
+    EighthsOutOfRange,
     /// A code that is unknown, or "none" from a call that has no "none".
     Unknown(i32),
     /// A result, with a kind of wire that is unknown.
@@ -60,9 +62,9 @@ pub enum Refusal {
 }
 
 impl Refusal {
-    /// All refusals of the refusal table, in the order of their numbers, which
-    /// begin with 1.
-    pub const ALL: [Refusal; 15] = [
+    /// All refusals of the refusal table, in the order of their numbers: 1 to
+    /// 15, and 18.
+    pub const ALL: [Refusal; 16] = [
         Refusal::Malformed,
         Refusal::VertexNumber,
         Refusal::EdgeNumber,
@@ -78,6 +80,7 @@ impl Refusal {
         Refusal::EmptyList,
         Refusal::SeveralCuts,
         Refusal::EmptyOpenWire,
+        Refusal::EighthsOutOfRange,
     ];
 
     /// The code that the archive answered: the number in the refusal table, or
@@ -99,6 +102,7 @@ impl Refusal {
             Refusal::EmptyList => 13,
             Refusal::SeveralCuts => 14,
             Refusal::EmptyOpenWire => 15,
+            Refusal::EighthsOutOfRange => 18,
             Refusal::Unknown(code) => code,
             Refusal::UnknownKind(_) => DONE,
         }
@@ -148,6 +152,7 @@ impl fmt::Display for Refusal {
             Refusal::EmptyList => "the walk arrives at a vertex whose list is empty",
             Refusal::SeveralCuts => "an edge is to be cut at two or more places",
             Refusal::EmptyOpenWire => "an open wire handed to a join is empty",
+            Refusal::EighthsOutOfRange => "the number of eighths is outside 1 to 7",
             Refusal::Unknown(code) => {
                 return write!(to, "the code {code} is unknown: {APART}");
             }

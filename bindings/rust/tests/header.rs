@@ -10,7 +10,7 @@ use kaugrenna::{lent, BoundaryType, Preparation, Refusal};
 
 const HEADER: &str = include_str!("../../../include/kaugrenna.h");
 
-/// The ten calls by name, each with its arguments: what stands between
+/// The eleven calls by name, each with its arguments: what stands between
 /// `before` and `after`, as this text writes a call.
 fn calls(text: &str, before: &str, after: &str) -> BTreeMap<String, Vec<String>> {
     let call = |call: &str| {
@@ -23,7 +23,7 @@ fn calls(text: &str, before: &str, after: &str) -> BTreeMap<String, Vec<String>>
     };
     let start = format!("{before}kaugrenna_");
     let calls: BTreeMap<_, _> = text.split(&start).skip(1).map(call).collect();
-    assert_eq!(calls.len(), 10);
+    assert_eq!(calls.len(), 11);
     calls
 }
 
@@ -151,6 +151,7 @@ fn the_constants_are_those_of_the_module() {
         ("MAX_WIRES", lent::MAX_WIRES as f64),
         ("MAX_USES", lent::MAX_USES as f64),
         ("MAX_SIZE", lent::MAX_SIZE),
+        ("MIDDLE", kaugrenna::MIDDLE.into()),
         ("DONE", raw::DONE.into()),
         ("NONE", raw::NONE.into()),
         ("SPAN", lent::SPAN.into()),

@@ -3,7 +3,7 @@
 
 use kaugrenna::raw::{self, Period, DONE, NONE};
 use kaugrenna::{Cuts, Divisor, Edges, OwnedTables, OwnedWires, Room};
-use kaugrenna::{Stretch, Tables, Wires, WiresMut};
+use kaugrenna::{Stretch, Tables, Wires, WiresMut, MIDDLE};
 
 /// What a float place holds before a call: a NaN that signals.
 const MARK: u64 = 0x7ff0_0000_0000_0001;
@@ -42,6 +42,22 @@ fn a_period_of_any_kind() {
     let periods = [Period { kind: 1, size: 1.0 }, wrong];
     let code = raw::nearest_copy([0.0; 2], [0.0; 2], periods, copy.each_mut());
     assert_eq!((code, copy.map(f64::to_bits)), (1, [MARK; 2]));
+}
+
+#[test]
+fn a_parameter_and_its_place() {
+    let ask = |t0, t1, k| {
+        let mut out = f64::from_bits(MARK);
+        let code = raw::cut_parameter(t0, t1, k, &mut out);
+        (code, out.to_bits())
+    };
+    assert_eq!(ask(0.0, 8.0, 1), (DONE, 1.0_f64.to_bits()));
+    assert_eq!(ask(0.0, 8.0, MIDDLE), (DONE, 4.0_f64.to_bits()));
+    for k in [0, 8, u32::MAX] {
+        assert_eq!(ask(0.0, 8.0, k), (18, MARK));
+        assert_eq!(ask(8.0, 0.0, k), (5, MARK));
+        assert_eq!(ask(f64::NAN, 0.0, k), (4, MARK));
+    }
 }
 
 #[test]
@@ -98,11 +114,11 @@ fn counts_past_everything() {
         lengths: &mut [],
         count: usize::MAX,
     };
-    let asked = counts(|out| raw::split_closed_edges(tables, wires, out));
+    let asked = counts(|out| raw::split_closed_edges(tables, wires, u32::MAX, out));
     assert_eq!(asked, (1, [7, 8, 9]));
 }
 
-/// One vertex and a closed edge with a preparation that is none.
+/// One vertex and a closed edge with an unknown preparation.
 fn unknown_preparation() -> OwnedTables {
     OwnedTables {
         vertex_numbers: vec![0; 6],
@@ -115,11 +131,25 @@ fn unknown_preparation() -> OwnedTables {
 }
 
 #[test]
+fn places_of_the_pass_after_eighths_that_are_refused() {
+    let (mut tables, mut wires) = (OwnedTables::default(), OwnedWires::default());
+    let mut pass =
+        |k| counts(|out| raw::split_closed_edges(tables.lend_mut(), wires.lend_mut(), k, out));
+    assert_eq!(pass(MIDDLE), (DONE, [0; 3]));
+    for k in [0, 8, u32::MAX] {
+        assert_eq!(pass(k), (18, [7, 8, 9]));
+    }
+}
+
+#[test]
 fn places_of_the_cuts_after_an_unknown_preparation() {
     let mut wires = OwnedWires::default();
     let mut tables = unknown_preparation();
-    let pass = counts(|out| raw::split_closed_edges(tables.lend_mut(), wires.lend_mut(), out));
-    assert_eq!(pass, (1, [7, 8, 9]));
+    for k in [MIDDLE, 0] {
+        let pass =
+            counts(|out| raw::split_closed_edges(tables.lend_mut(), wires.lend_mut(), k, out));
+        assert_eq!(pass, (1, [7, 8, 9]));
+    }
     let cuts = Cuts {
         floats: &[0.0; 4],
         count: 1,

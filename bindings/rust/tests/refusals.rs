@@ -5,25 +5,35 @@ mod common;
 
 use common::{wire, Shell, Split, MARK, PIPE, PIPE_WIRE};
 use kaugrenna::lent::EDGE_NUMBERS;
-use kaugrenna::{boundary_type, get_mindiff, nearest_copy, sort_wires};
+use kaugrenna::{boundary_type, cut_parameter, get_mindiff, nearest_copy, sort_wires};
 use kaugrenna::{connect_open_boundaries, cut_edge_by_intersections};
 use kaugrenna::{find_non_simple_wire_divisor, nearest_correction, split_closed_edges};
-use kaugrenna::{Cuts, Refusal};
+use kaugrenna::{lent, Cuts, Refusal, MIDDLE};
+
+/// Numbers of eighths that are refused.
+const NO_EIGHTHS: [u32; 3] = [0, 8, u32::MAX];
 
 /// What the pass refuses; nothing lent is changed.
-fn pass_over(mut shell: Shell) -> Option<Refusal> {
+fn pass_over(mut shell: Shell, k: u32) -> Option<Refusal> {
     let before = shell.cells();
     let (tables, wires) = shell.lend();
-    let answer = split_closed_edges(tables, wires).err();
+    let answer = split_closed_edges(tables, wires, k).err();
     assert!(answer.is_none() || shell.cells() == before);
     answer
 }
 
-/// The same, after a change of K1.
+/// The same, after a change of K1, at the middle. With a number of eighths that
+/// is refused the answer is the same where it is below 6, and else 18.
 fn pass(change: impl Fn(&mut Shell)) -> Option<Refusal> {
     let mut shell = Shell::new(&[[0.0; 3]], &[[0, 0]], &["0+"], 1);
     change(&mut shell);
-    pass_over(shell)
+    let answer = pass_over(shell.clone(), MIDDLE);
+    let before = answer.filter(|refusal| *refusal < Refusal::NoRoom);
+    for k in NO_EIGHTHS {
+        let wrong = before.or(Some(Refusal::EighthsOutOfRange));
+        assert_eq!(pass_over(shell.clone(), k), wrong, "{answer:?}");
+    }
+    answer
 }
 
 /// What one cut refuses, with so many cuts at this parameter; nothing lent is
@@ -108,7 +118,7 @@ fn all_with_edges(change: impl Fn(&mut Shell)) -> [Option<Refusal>; 6] {
     };
     let [ends, search] = lookups_over(shell(PIPE_WIRE), 3);
     [
-        pass_over(shell(PIPE_WIRE)),
+        pass_over(shell(PIPE_WIRE), MIDDLE),
         cut_over(shell(PIPE_WIRE), 2.0, 1, 1),
         ends,
         search,
@@ -134,6 +144,50 @@ fn refusals_of_the_pass() {
     let no_room = Some(Refusal::NoRoom);
     assert_eq!(pass(|s| s.tables.vertex_numbers.truncate(5)), no_room);
     assert_eq!(pass(|s| s.wires.uses.truncate(1)), no_room);
+}
+
+#[test]
+fn eighths_are_judged_where_no_edge_is_closed() {
+    let shell = || Shell::pipe(&[PIPE_WIRE], 0);
+    let nothing = || Shell::new(&[], &[], &[], 0);
+    for k in 1..=7 {
+        assert_eq!([pass_over(shell(), k), pass_over(nothing(), k)], [None; 2]);
+    }
+    let wrong = Some(Refusal::EighthsOutOfRange);
+    for k in NO_EIGHTHS {
+        assert_eq!([pass_over(shell(), k), pass_over(nothing(), k)], [wrong; 2]);
+    }
+}
+
+#[test]
+fn eighths_are_judged_where_the_tables_are_full() {
+    let most = vec![[0.0; 3]; lent::MAX_ROWS];
+    // In the vertices there is no row up to the bound, but one is lent.
+    let shell = Shell::new(&most, &[[0, 0]], &["0+"], 1);
+    for k in 1..=7 {
+        assert_eq!(pass_over(shell.clone(), k), Some(Refusal::NoRoom));
+    }
+    for k in NO_EIGHTHS {
+        let wrong = Some(Refusal::EighthsOutOfRange);
+        assert_eq!(pass_over(shell.clone(), k), wrong);
+    }
+}
+
+#[test]
+fn refusals_of_the_parameter() {
+    for k in NO_EIGHTHS {
+        let wrong = Err(Refusal::EighthsOutOfRange);
+        assert_eq!(cut_parameter(0.0, 8.0, k), wrong);
+        assert_eq!(cut_parameter(-0.0, -0.0, k), wrong);
+    }
+    for k in (1..=7).chain(NO_EIGHTHS) {
+        assert_eq!(cut_parameter(8.0, 0.0, k), Err(Refusal::OutOfRange));
+        for wrong in [f64::NAN, f64::INFINITY, f64::NEG_INFINITY, 1.1e15, -1.1e15] {
+            for (t0, t1) in [(wrong, 0.0), (0.0, wrong), (wrong, wrong)] {
+                assert_eq!(cut_parameter(t0, t1, k), Err(Refusal::NotSized));
+            }
+        }
+    }
 }
 
 #[test]
@@ -291,11 +345,12 @@ fn a_preparation_behind_the_count_is_no_input() {
 
 #[test]
 fn numbers_and_sentences_of_refusals() {
-    for (place, refusal) in Refusal::ALL.into_iter().enumerate() {
-        assert_eq!(refusal.number(), place as i32 + 1);
+    let numbers: Vec<_> = (1..=15).chain([18]).collect();
+    assert_eq!(Refusal::ALL.map(Refusal::number)[..], numbers);
+    for refusal in Refusal::ALL {
         assert_eq!(Refusal::of(refusal.number()), Some(refusal));
     }
-    assert_eq!([Refusal::of(0), Refusal::of(16)], [None, None]);
+    assert_eq!([0, 16, 17, 19].map(Refusal::of), [None; 4]);
     let unknown = [Refusal::Unknown(16), Refusal::UnknownKind(3)];
     assert_eq!(unknown.map(Refusal::number), [16, 0]);
     let said = "the code 16 is unknown: module and archive do not belong together";

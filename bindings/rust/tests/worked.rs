@@ -4,38 +4,51 @@
 mod common;
 
 use common::{bits, wire, Shell, Split, FLOAT_MARK, MARK, PIPE_WIRE};
-use kaugrenna::{boundary_type, get_mindiff, nearest_copy, sort_wires};
+use kaugrenna::{boundary_type, cut_parameter, get_mindiff, nearest_copy, sort_wires};
 use kaugrenna::{connect_open_boundaries, cut_edge_by_intersections};
 use kaugrenna::{find_non_simple_wire_divisor, nearest_correction, split_closed_edges};
-use kaugrenna::{BoundaryType, Counts, Cuts, Rebuilt, Refusal, Stretch};
+use kaugrenna::{BoundaryType, Counts, Cuts, OwnedTables, Rebuilt, Refusal, Stretch, MIDDLE};
 
 /// One vertex and one closed edge, with one wire.
 fn closed_edge(notation: &str) -> Shell {
     Shell::new(&[[0.5, 0.25, 0.0]], &[[0, 0]], &[notation], 2)
 }
 
+/// What the pass leaves of a closed edge that lies from 0 to 8 and is cut at t,
+/// k eighths of the way.
+fn assert_cut(before: &str, after: &str, k: u32, t: f64) {
+    let mut shell = closed_edge(before);
+    let (tables, wires) = shell.lend();
+    let counts = Counts {
+        vertices: 2,
+        edges: 2,
+        uses: 2,
+    };
+    assert_eq!(split_closed_edges(tables, wires, k), Ok(counts));
+    let Shell { tables, wires } = shell;
+    let edges = [[0, 1, 0, 7, 0], [1, 0, 0, 7, 0]].concat();
+    assert_eq!(tables.edge_numbers[..10], edges);
+    assert_eq!(tables.edge_numbers[10], MARK);
+    let ranges = [&tables.edge_floats[4..6], &tables.edge_floats[10..12]];
+    assert_eq!(ranges, [[0.0, t], [t, 8.0]]);
+    assert_eq!(tables.vertex_numbers[3..7], [1, 0, 7, MARK]);
+    assert_eq!(tables.vertex_floats[11..14], [0.0, 8.0, t]);
+    assert_eq!(tables.vertex_floats[14].to_bits(), FLOAT_MARK);
+    assert_eq!(wires.uses[..2], wire(after));
+    assert_eq!((wires.uses[2], &wires.lengths[..2]), (MARK, &[2, MARK][..]));
+}
+
 #[test]
 fn k1_and_k2_a_closed_edge_is_cut() {
-    for (before, after) in [("0+", "0+ 1+"), ("0-", "1- 0-")] {
-        let mut shell = closed_edge(before);
-        let (tables, wires) = shell.lend();
-        let counts = Counts {
-            vertices: 2,
-            edges: 2,
-            uses: 2,
-        };
-        assert_eq!(split_closed_edges(tables, wires), Ok(counts));
-        let Shell { tables, wires } = shell;
-        let edges = [[0, 1, 0, 7, 0], [1, 0, 0, 7, 0]].concat();
-        assert_eq!(tables.edge_numbers[..10], edges);
-        assert_eq!(tables.edge_numbers[10], MARK);
-        let ranges = [&tables.edge_floats[4..6], &tables.edge_floats[10..12]];
-        assert_eq!(ranges, [[0.0, 4.0], [4.0, 8.0]]);
-        assert_eq!(tables.vertex_numbers[3..7], [1, 0, 7, MARK]);
-        assert_eq!(tables.vertex_floats[11..14], [0.0, 8.0, 4.0]);
-        assert_eq!(tables.vertex_floats[14].to_bits(), FLOAT_MARK);
-        assert_eq!(wires.uses[..2], wire(after));
-        assert_eq!((wires.uses[2], &wires.lengths[..2]), (MARK, &[2, MARK][..]));
+    assert_cut("0+", "0+ 1+", MIDDLE, 4.0);
+    assert_cut("0-", "1- 0-", MIDDLE, 4.0);
+}
+
+#[test]
+fn a_closed_edge_is_cut_at_every_eighth() {
+    for k in 1..=7 {
+        assert_cut("0+", "0+ 1+", k, k.into());
+        assert_cut("0-", "1- 0-", k, k.into());
     }
 }
 
@@ -44,8 +57,77 @@ fn k3_no_edges() {
     let mut shell = Shell::new(&[], &[], &[], 1);
     let before = shell.cells();
     let (tables, wires) = shell.lend();
-    assert_eq!(split_closed_edges(tables, wires), Ok(Counts::default()));
-    assert_eq!(shell.cells(), before);
+    let counts = split_closed_edges(tables, wires, MIDDLE);
+    assert_eq!((counts, shell.cells()), (Ok(Counts::default()), before));
+}
+
+/// The parameters of this range for k from 1 to 7.
+fn parameters(t0: f64, t1: f64) -> [f64; 7] {
+    [1, 2, 3, 4, 5, 6, 7].map(|k| cut_parameter(t0, t1, k).unwrap())
+}
+
+#[test]
+fn the_parameters_of_each_eighth() {
+    assert_eq!(parameters(0.0, 8.0), [1.0, 2.0, 3.0, 4.0, 5.0, 6.0, 7.0]);
+    let eighths = [-7.5, -5.0, -2.5, 0.0, 2.5, 5.0, 7.5].map(|part| part * 1.0e14);
+    assert_eq!(parameters(-1.0e15, 1.0e15), eighths);
+    // Between neighbours the middle, by its own formula, is already the upper end.
+    let unit = f64::from_bits(1);
+    let units = parameters(unit, 2.0 * unit).map(f64::to_bits);
+    assert_eq!(units, [1, 1, 1, 2, 2, 2, 2]);
+}
+
+#[test]
+fn the_parameters_of_a_range_without_length() {
+    for t in [0.0, 1.5, -0.1, 1.0e15, -1.0e15, f64::from_bits(1)] {
+        assert_eq!(bits(&parameters(t, t)), bits(&[t; 7]));
+    }
+    let zeros = [0.0, 0.0, 0.0, -0.0, 0.0, 0.0, 0.0];
+    assert_eq!(bits(&parameters(-0.0, -0.0)), bits(&zeros));
+}
+
+/// Ranges of curves: of all sizes, and where a rounding shows.
+fn ranges() -> [[f64; 2]; 6] {
+    let step = f64::from_bits(1);
+    let [small, large] = [[step, 3.0 * step], [1.0e15 - 0.125, 1.0e15]];
+    [
+        [0.1, 0.7],
+        [-0.3, 1.0e15],
+        [-0.7, 0.2],
+        [-0.0; 2],
+        small,
+        large,
+    ]
+}
+
+#[test]
+fn the_parameter_is_rounded_from_left_to_right() {
+    for [t0, t1] in ranges() {
+        let mut formula = [1.0, 2.0, 3.0, 4.0, 5.0, 6.0, 7.0].map(|k| t0 + (t1 - t0) * k / 8.0);
+        formula[3] = (t0 + t1) / 2.0;
+        assert_eq!(bits(&parameters(t0, t1)), bits(&formula));
+        assert!(formula.iter().all(|t| (t0..=t1).contains(t)));
+    }
+}
+
+#[test]
+fn the_pass_cuts_at_the_parameter() {
+    for [t0, t1] in ranges() {
+        for (k, t) in (1..).zip(parameters(t0, t1)) {
+            let mut shell = closed_edge("0-");
+            shell.tables.edge_floats[4..6].copy_from_slice(&[t0, t1]);
+            let (tables, wires) = shell.lend();
+            assert!(split_closed_edges(tables, wires, k).is_ok());
+            let OwnedTables {
+                edge_floats,
+                vertex_floats,
+                ..
+            } = shell.tables;
+            let pieces = [&edge_floats[4..6], &edge_floats[10..12]].concat();
+            assert_eq!(bits(&pieces), bits(&[t0, t, t, t1]));
+            assert_eq!(bits(&vertex_floats[11..14]), bits(&[t0, t1, t]));
+        }
+    }
 }
 
 #[test]
@@ -202,6 +284,13 @@ fn bevelled_pipe(wires: &[&str], room: usize) -> Shell {
 
 #[test]
 fn the_pass_gives_both_pieces_the_preparation_of_the_edge() {
+    for k in 1..=7 {
+        assert_prepared_alike(k);
+    }
+}
+
+/// The same for a number of eighths.
+fn assert_prepared_alike(k: u32) {
     let ends = [[0, 0], [0, 1], [1, 1], [1, 1]];
     let mut shell = Shell::new(&[[0.0; 3]; 2], &ends, &["0+ 1+ 2- 3- 1-"], 3);
     for (edge, preparation) in [2, 1, 0, 1].into_iter().enumerate() {
@@ -213,7 +302,7 @@ fn the_pass_gives_both_pieces_the_preparation_of_the_edge() {
         edges: 7,
         uses: 8,
     };
-    assert_eq!(split_closed_edges(tables, wires), Ok(counts));
+    assert_eq!(split_closed_edges(tables, wires, k), Ok(counts));
     let Shell { tables, wires } = shell;
     // Edges 0, 2 and 3 are cut, and their second halves are 4, 5 and 6.
     let edges = [

@@ -16,6 +16,7 @@ use Rattle.compress.specs.Shell.{Lent, load}
 use Rattle.compress.proofs.Loading.{edge_loaded}
 use Rattle.cutting.specs.Contract.{Outcome, next_lent}
 use Rattle.cutting.specs.Keeps.{PreparationsKept}
+use Rattle.cutting.specs.parameter.Eighths.{parameter_of}
 use Rattle.split_closed_edges.specs.add_edges.Add.{added_to}
 use Rattle.split_closed_edges.specs.Pass.{split_closed_edges}
 use Rattle.split_closed_edges.specs.Contract.{outcome_of}
@@ -30,19 +31,19 @@ use Rattle.cases.specs.Cases.{rim_prepared, rim_cut_prepared}
 use Rattle.cases.specs.Bevels.{cut_at_four, cut_left, pass_keeps_bevel, cut_keeps_bevel}
 
 -- where both calls tell a result, the slices hold the shell of the pass with its edge i cut
-pub pass_then_cut : (l : Lent) (c c' : Counts) (o o' : Outcome) (d : Edge) (i : ℕ) (cs : List Float)
-    → o ≡ outcome_of l → o.said ≡ result c → o' ≡ cut_outcome (next_lent o c l.wires) i cs 1 → o'.said ≡ result c'
-    → load (next_lent o' c' l.wires) ≡ cut_once (split_closed_edges (load l)) i (get_or (split_closed_edges (load l)).edges i d) (cut_at cs 0)
-pass_then_cut l c c' o o' d i cs e p e' p' =
+pub pass_then_cut : (k : ℕ) (l : Lent) (c c' : Counts) (o o' : Outcome) (d : Edge) (i : ℕ) (cs : List Float)
+    → o ≡ outcome_of k l → o.said ≡ result c → o' ≡ cut_outcome (next_lent o c l.wires) i cs 1 → o'.said ≡ result c'
+    → load (next_lent o' c' l.wires) ≡ cut_once (split_closed_edges (parameter_of k) (load l)) i (get_or (split_closed_edges (parameter_of k) (load l)).edges i d) (cut_at cs 0)
+pass_then_cut k l c c' o o' d i cs e p e' p' =
     let m = next_lent o c l.wires in
-    let q : load m ≡ split_closed_edges (load l) = pass_read l c o e p in
+    let q : load m ≡ split_closed_edges (parameter_of k) (load l) = pass_read k l c o e p in
     let lt = (cut_few m i c' cs 1 o' e' p').1 in
     rw (← q) (cut_read m i c' cs 1 o' e' p' refl ∙ rw (edge_loaded m d i lt))
 
 -- ---- the law of preparations, of a pass and of one cut that tell a result: both pieces of K1's edge have its double bevel, or its single one
 pub pass_prepared_bevel : PreparationsKept (Some 1 ∷ []) 1 2 (rim_prepared 2 (0 ∷ [])).slices.en (rim_cut_prepared 2 (0 ∷ 2 ∷ [])).slices.en
 unfolding load rows added_to closed edge_of
-pass_prepared_bevel = pass_prepared (rim_prepared 2 (0 ∷ [])) _ (rim_cut_prepared 2 (0 ∷ 2 ∷ [])) (sym pass_keeps_bevel) refl
+pass_prepared_bevel = pass_prepared 4 (rim_prepared 2 (0 ∷ [])) _ (rim_cut_prepared 2 (0 ∷ 2 ∷ [])) (sym pass_keeps_bevel) refl
 
 pub cut_prepared_bevel : PreparationsKept (Some 1 ∷ []) 1 2 (rim_prepared 1 (0 ∷ [])).slices.en cut_left.slices.en
 unfolding added_at

@@ -4,7 +4,7 @@
 use Rattle.std.specs.Prelude.{◌≡◌, refl, Option, Some, None, List, [], ◌∷◌, ◌++◌, ℕ, ◌+◌, ◌*◌, length, replicate, Float}
 use Rattle.std.specs.Float.{nan, binary64}
 use Rattle.std.specs.Float.Ieee.{of_bits, add, sub, mul, div, neg, lt, le, round}
-use Rattle.compress.specs.Constants.{zero64, one64, two64, four64}
+use Rattle.compress.specs.Constants.{zero64, one64, two64, four64, eight64}
 use Rattle.compress.specs.declared.Uv.{Uv}
 use Rattle.compress.specs.Layout.{put, store_from, rows}
 use Rattle.compress.specs.Rows.{numbers_per_edge, floats_per_edge, numbers_per_vertex, floats_per_vertex, curve_of, edge_of, vertex_of, edge_number_layout, edge_float_layout, vertex_number_layout, vertex_float_layout}
@@ -14,7 +14,9 @@ use Rattle.compress.specs.Shell.{Lent, load, store_shell, counts_of, vertices_fi
 use Rattle.compress.specs.Wires.{total, wires_of, uses_of, lengths_of}
 use Rattle.checks.specs.Causes.{lower_of, lowest_of, float_cause, range_cause, parameter_cause, period_cause, uv_cause, curve_cause, edge_cause, point_cause, vertex_cause, edge_row_cause, vertex_row_cause, edges_cause, vertices_cause, pending_cause, uses_cause, wires_cause}
 use Rattle.checks.specs.points.Tables.{tables_cause}
-use Rattle.cutting.specs.cut_edge.Cut.{middle_of, halves_of, pending_of}
+use Rattle.cutting.specs.cut_edge.Cut.{halves_of, pending_of}
+use Rattle.cutting.specs.parameter.Eighths.{parameter_of}
+use Rattle.floats.specs.Exact.{cut_parameter_of}
 use Rattle.cutting.specs.Contract.{Outcome, lent_of, input_cause}
 use Rattle.split_closed_edges.specs.add_edges.Add.{kept_edges, new_edges, new_vertices, added_to}
 use Rattle.cutting.specs.mending.Replace.{replace_use, replace_edges, replace_wires}
@@ -52,9 +54,6 @@ four_and_half64 = of_bits binary64 0x4012_0000_0000_0000
 
 abbrev pub six64 : Float
 six64 = of_bits binary64 0x4018_0000_0000_0000
-
-abbrev pub eight64 : Float
-eight64 = of_bits binary64 0x4020_0000_0000_0000
 
 -- ---- what the slices hold
 
@@ -99,7 +98,7 @@ plain_floats = span_floats zero64 one64
 
 -- ---- a call, what it is lent, and what it answers and leaves
 pub data Case : Type 0 where
-  closed_edges : Lent → Outcome → Case
+  closed_edges : (k : ℕ) → Lent → Outcome → Case
   unwrapping : (u u0 : Float) → Option Float → Said Float → Case
   searching : Lent → Said Ends → Case
   splitting : LentSplit → SplitOutcome → Case
@@ -107,7 +106,7 @@ pub data Case : Type 0 where
 
 -- what a case says of the outcome of its call
 abbrev pub holds : Case → Type 0
-holds (closed_edges lent answer) = outcome_of lent ≡ answer
+holds (closed_edges k lent answer) = outcome_of k lent ≡ answer
 holds (unwrapping u u0 period answer) = get_mindiff u u0 period ≡ answer
 holds (searching lent answer) = find_non_simple lent ≡ answer
 holds (splitting lent answer) = split_outcome lent ≡ answer
@@ -132,35 +131,39 @@ rim_prepared p wire =
 abbrev pub rim_with : List ℕ → Lent
 rim_with wire = rim_prepared 0 wire
 
--- edge 0 = (0, 1) from 0 to 4, edge 1 = (1, 0) from 4 to 8, vertex 1 with these cells, and the wire that is left
-abbrev pub rim_left : ℕ → List ℕ → List Float → List ℕ → Outcome
-rim_left p numbers floats wire =
+-- edge 0 = (0, 1) from 0 to t, edge 1 = (1, 0) from t to 8, vertex 1 with these cells, and the wire that is left
+abbrev pub rim_left : ℕ → Float → List ℕ → List Float → List ℕ → Outcome
+rim_left p t numbers floats wire =
     record {
       said = result (record { vertices = 2; edges = 2; uses = length wire });
       slices = record {
         vn = given_numbers ++ numbers ++ idle numbers_per_vertex;
         vf = given_floats zero64 zero64 zero64 ++ floats ++ idle_floats floats_per_vertex;
         en = prepared_numbers 0 1 7 p ++ prepared_numbers 1 0 7 p ++ idle numbers_per_edge;
-        ef = span_floats zero64 four64 ++ span_floats four64 eight64 ++ idle_floats floats_per_edge;
+        ef = span_floats zero64 t ++ span_floats t eight64 ++ idle_floats floats_per_edge;
         us = wire ++ idle 2;
         ls = length wire ∷ idle 1;
       };
     }
 
--- vertex 1 is pending on span 7 (0 to 8) at 4
+-- vertex 1 is pending on span 7 (0 to 8) at t
+abbrev pub rim_cut_at : ℕ → Float → List ℕ → Outcome
+rim_cut_at p t wire = rim_left p t (pending_numbers 7) (pending_floats zero64 eight64 t) wire
+
 abbrev pub rim_cut_prepared : ℕ → List ℕ → Outcome
-rim_cut_prepared p wire = rim_left p (pending_numbers 7) (pending_floats zero64 eight64 four64) wire
+rim_cut_prepared p wire = rim_cut_at p four64 wire
 
 abbrev pub rim_cut_with : List ℕ → Outcome
 rim_cut_with wire = rim_cut_prepared 0 wire
 
+-- document 02, A.3: "Equality with the Rust and K1 to K3 are for 4"
 -- "K1: one vertex, edge 0 = (0, 0) with span 7 from 0 to 8, wire 0+. Result: .. wire 0+ 1+."
 abbrev pub k1 : Case
-k1 = closed_edges (rim_with (0 ∷ [])) (rim_cut_with (0 ∷ 2 ∷ []))
+k1 = closed_edges 4 (rim_with (0 ∷ [])) (rim_cut_with (0 ∷ 2 ∷ []))
 
 -- "K2: wire 0- gives 1- 0-."
 abbrev pub k2 : Case
-k2 = closed_edges (rim_with (1 ∷ [])) (rim_cut_with (3 ∷ 1 ∷ []))
+k2 = closed_edges 4 (rim_with (1 ∷ [])) (rim_cut_with (3 ∷ 1 ∷ []))
 
 -- "K3: no edges, nothing changes."
 abbrev pub no_edges : Lent
@@ -172,7 +175,7 @@ no_edges =
     1 0 1
 
 abbrev pub k3 : Case
-k3 = closed_edges no_edges (record { said = result (record { vertices = 1; edges = 0; uses = 0 }); slices = no_edges.slices })
+k3 = closed_edges 4 no_edges (record { said = result (record { vertices = 1; edges = 0; uses = 0 }); slices = no_edges.slices })
 
 -- "K4: u 0.5, u0 6, period 4 gives 4.5."
 abbrev pub k4 : Case
@@ -298,14 +301,14 @@ abbrev pub cases : List Case
 cases = k1 ∷ k2 ∷ k3 ∷ k4 ∷ k5 ∷ k6 ∷ k7 ∷ k8 ∷ k9 ∷ k10 ∷ k11 ∷ k12 ∷ k13 ∷ []
 
 pub cases_hold : all_hold cases
-unfolding add sub mul div neg lt le round of_bits lower_of lowest_of float_cause range_cause parameter_cause uv_cause curve_cause edge_cause point_cause vertex_cause edge_row_cause vertex_row_cause edges_cause vertices_cause uses_cause wires_cause put store_from rows curve_of edge_of vertex_of edge_number_layout edge_float_layout vertex_number_layout vertex_float_layout total wires_of uses_of lengths_of load store_shell counts_of vertices_fit edges_fit uses_fit has_room input_cause closed kept_edges new_edges new_vertices added_to replace_use replace_edges replace_wires middle_of halves_of pending_of split_closed_edges outcome_of smaller away_from nearest_of unwrapped period_cause period_cause_of unwrap_cause get_mindiff pending_cause tables_cause nothing insert searched first_repeat turned second_pair divided_by turned_divisor wire_divisor find_divisor search_cause find_non_simple front_of back_of front_at back_at fronts_of point_of point_gap gap_from nearest_front nearest_ends steps opened table_walk seam_of seams_of stands repeats_after stop_cause stops_cause new_uses occurs marked_by split_wires split_wires_cause split_input_cause room_cause split_cause given_in split_stored split_outcome
+unfolding add sub mul div neg lt le round of_bits lower_of lowest_of float_cause range_cause parameter_cause uv_cause curve_cause edge_cause point_cause vertex_cause edge_row_cause vertex_row_cause edges_cause vertices_cause uses_cause wires_cause put store_from rows curve_of edge_of vertex_of edge_number_layout edge_float_layout vertex_number_layout vertex_float_layout total wires_of uses_of lengths_of load store_shell counts_of vertices_fit edges_fit uses_fit has_room input_cause closed kept_edges new_edges new_vertices added_to replace_use replace_edges replace_wires cut_parameter_of parameter_of halves_of pending_of split_closed_edges outcome_of smaller away_from nearest_of unwrapped period_cause period_cause_of unwrap_cause get_mindiff pending_cause tables_cause nothing insert searched first_repeat turned second_pair divided_by turned_divisor wire_divisor find_divisor search_cause find_non_simple front_of back_of front_at back_at fronts_of point_of point_gap gap_from nearest_front nearest_ends steps opened table_walk seam_of seams_of stands repeats_after stop_cause stops_cause new_uses occurs marked_by split_wires split_wires_cause split_input_cause room_cause split_cause given_in split_stored split_outcome
 cases_hold = (refl, (refl, (refl, (refl, (refl, (refl, (refl, (refl, (refl, (refl, (refl, (refl, (refl, tt)))))))))))))
 
 -- ---- beside document 01's cases
 
 -- K1's edge with the wire 0+ 0- gives 0+ 1+ 1- 0-
 abbrev pub both_ways : Case
-both_ways = closed_edges (rim_with (0 ∷ 1 ∷ [])) (rim_cut_with (0 ∷ 2 ∷ 3 ∷ 1 ∷ []))
+both_ways = closed_edges 4 (rim_with (0 ∷ 1 ∷ [])) (rim_cut_with (0 ∷ 2 ∷ 3 ∷ 1 ∷ []))
 
 -- "With no period, u comes back as given, to the bit."
 abbrev pub no_period : Case
@@ -323,5 +326,5 @@ abbrev pub corners : List Case
 corners = both_ways ∷ no_period ∷ zero_step ∷ zero_shift ∷ []
 
 pub corners_hold : all_hold corners
-unfolding add sub mul div neg lt le round of_bits lower_of lowest_of float_cause range_cause parameter_cause uv_cause curve_cause edge_cause point_cause vertex_cause edge_row_cause vertex_row_cause edges_cause vertices_cause uses_cause wires_cause put store_from rows curve_of edge_of vertex_of edge_number_layout edge_float_layout vertex_number_layout vertex_float_layout total wires_of uses_of lengths_of load store_shell counts_of vertices_fit edges_fit uses_fit has_room input_cause closed kept_edges new_edges new_vertices added_to replace_use replace_edges replace_wires middle_of halves_of pending_of split_closed_edges outcome_of smaller away_from nearest_of unwrapped period_cause period_cause_of unwrap_cause get_mindiff nearest_copy_of copy_cause nearest_copy_said
+unfolding add sub mul div neg lt le round of_bits lower_of lowest_of float_cause range_cause parameter_cause uv_cause curve_cause edge_cause point_cause vertex_cause edge_row_cause vertex_row_cause edges_cause vertices_cause uses_cause wires_cause put store_from rows curve_of edge_of vertex_of edge_number_layout edge_float_layout vertex_number_layout vertex_float_layout total wires_of uses_of lengths_of load store_shell counts_of vertices_fit edges_fit uses_fit has_room input_cause closed kept_edges new_edges new_vertices added_to replace_use replace_edges replace_wires cut_parameter_of parameter_of halves_of pending_of split_closed_edges outcome_of smaller away_from nearest_of unwrapped period_cause period_cause_of unwrap_cause get_mindiff nearest_copy_of copy_cause nearest_copy_said
 corners_hold = (refl, (refl, (refl, (refl, tt))))

@@ -86,7 +86,7 @@ pub fn float(x: f64) -> Checked
 }
 
 // A range is two floats, here and in other crates: document 01 names the form of `Curve`, which has t0 and t1 as fields of their own.
-fn range(t0: f64, t1: f64) -> Checked
+pub fn range(t0: f64, t1: f64) -> Checked
     ensures { cause_of result ≡ range_cause t0 t1 }
 {
     lower(

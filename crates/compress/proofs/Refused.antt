@@ -4,7 +4,7 @@ use mathlib.Core.Logic.{inl, inr}
 use Rattle.std.specs.Result.{IsErrAnd}
 use Rattle.std.proofs.lemmas.Result.{err_from_is_err_and}
 use Rattle.compress.specs.declared.Refusal.{Refusal}
-use Rattle.compress.specs.declared.Refusal.TheVariants.{Malformed, VertexNumber, EdgeNumber, NotSized, OutOfRange, NoRoom, PendingVertex, PastEnd, OddDivisor, RepeatedVertex, DeadEnd, TooManyUses, EmptyList, SeveralCuts, EmptyOpenWire}
+use Rattle.compress.specs.declared.Refusal.TheVariants.{Malformed, VertexNumber, EdgeNumber, NotSized, OutOfRange, NoRoom, PendingVertex, PastEnd, OddDivisor, RepeatedVertex, DeadEnd, TooManyUses, EmptyList, SeveralCuts, EmptyOpenWire, EighthsOutOfRange}
 use Rattle.compress.specs.Refusals.{refusal_number, IsCause, cause_of}
 use Rattle.compress.specs.Said.{Said, result, none, refused, cause_or, refused_or}
 
@@ -25,12 +25,14 @@ number_above TooManyUses = (11, refl)
 number_above EmptyList = (12, refl)
 number_above SeveralCuts = (13, refl)
 number_above EmptyOpenWire = (14, refl)
+number_above EighthsOutOfRange = (17, refl)
 
 -- no two refusals have one number
 named : ℕ → Refusal
 named n =
     get_or (Malformed ∷ Malformed ∷ VertexNumber ∷ EdgeNumber ∷ NotSized ∷ OutOfRange ∷ NoRoom ∷ PendingVertex ∷ PastEnd ∷ OddDivisor
-    ∷ RepeatedVertex ∷ DeadEnd ∷ TooManyUses ∷ EmptyList ∷ SeveralCuts ∷ EmptyOpenWire ∷ []) n Malformed
+    ∷ RepeatedVertex ∷ DeadEnd ∷ TooManyUses ∷ EmptyList ∷ SeveralCuts ∷ EmptyOpenWire
+    ∷ Malformed ∷ Malformed ∷ EighthsOutOfRange ∷ []) n Malformed
 
 named_same : (r : Refusal) → named (refusal_number r) ≡ r
 unfolding named
@@ -49,6 +51,7 @@ named_same TooManyUses = refl
 named_same EmptyList = refl
 named_same SeveralCuts = refl
 named_same EmptyOpenWire = refl
+named_same EighthsOutOfRange = refl
 
 pub number_tells : (r s : Refusal) → refusal_number r ≡ refusal_number s → r ≡ s
 number_tells r s e = sym (named_same r) ∙ (ap named e ∙ named_same s)
@@ -56,7 +59,8 @@ number_tells r s e = sym (named_same r) ∙ (ap named e ∙ named_same s)
 -- refusals are ordered by their numbers
 abbrev pub rank : Refusal → ℤ
 rank z =
-    get_or (pos 1 ∷ pos 2 ∷ pos 3 ∷ pos 4 ∷ pos 5 ∷ pos 6 ∷ pos 7 ∷ pos 8 ∷ pos 9 ∷ pos 10 ∷ pos 11 ∷ pos 12 ∷ pos 13 ∷ pos 14 ∷ pos 15 ∷ [])
+    get_or (pos 1 ∷ pos 2 ∷ pos 3 ∷ pos 4 ∷ pos 5 ∷ pos 6 ∷ pos 7 ∷ pos 8 ∷ pos 9 ∷ pos 10 ∷ pos 11 ∷ pos 12 ∷ pos 13 ∷ pos 14 ∷ pos 15
+    ∷ pos 18 ∷ [])
     (denote.Enum.Declared.tag_of Rattle.compress.specs.contracts.Refusal.the_type z) (pos 0)
 
 pub ranked : (z : Refusal) → rank z ≡ pos (refusal_number z)
@@ -75,6 +79,7 @@ ranked TooManyUses = refl
 ranked EmptyList = refl
 ranked SeveralCuts = refl
 ranked EmptyOpenWire = refl
+ranked EighthsOutOfRange = refl
 
 -- what a check answers is a cause
 pub answer_is_cause : {A : Type 0} (r : Result A Refusal) → IsCause (cause_of r)

@@ -14,3 +14,6 @@ two64 = of_bits binary64 0x4000_0000_0000_0000
 
 abbrev pub four64 : Float
 four64 = of_bits binary64 0x4010_0000_0000_0000
+
+abbrev pub eight64 : Float
+eight64 = of_bits binary64 0x4020_0000_0000_0000

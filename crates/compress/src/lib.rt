@@ -163,9 +163,10 @@ pub enum Refusal {
     EmptyList = 13,
     SeveralCuts = 14,
     EmptyOpenWire = 15,
+    EighthsOutOfRange = 18,
 }
 
-// The number of a refusal in document 01's table.
+// The number of a refusal in document 01's table, which document 02's numbers join.
 impl From<Refusal> for u32 {
     ghost from_gives = { λ r n. n ≡ refusal_number r };
 

@@ -1,8 +1,11 @@
-// One edge cut in two: `cut_edge` of document 001, with the parameter halfway along a curve and the vertex that is pending there.
+// One edge cut in two: `cut_edge` of document 001, and the vertex that is pending where it is cut.
 
 ghost use Rattle.std.specs.Prelude.{◌≡◌};
-ghost use Rattle.cutting.specs.cut_edge.Cut.{Middle, with_range, halves_of, pending_of};
+ghost use Rattle.checks.specs.Causes.{curve_cause, vertex_cause};
+ghost use Rattle.cutting.specs.cut_edge.Cut.{with_range, halves_of, pending_of};
+ghost use Rattle.cutting.specs.parameter.Eighths.{parameter_of};
 
+use crate::parameter;
 use compress::{Curve, Edge, Vertex};
 
 // An edge that was cut, and the edge that was cut off.
@@ -28,17 +31,9 @@ fn with_range(c: Curve, t0: f64, t1: f64) -> Curve
     }
 }
 
-// The parameter halfway along a curve, which never leaves the curve's range.
-pub fn middle(c: Curve) -> f64
-    ensures { Middle c result }
-{
-    let (t0, t1) = c.range();
-    floats::midpoint(t0, t1)
-}
-
-// Both halves of an edge that is cut at t by vertex n: the old one has the part of the curve up to t, the new one that from t on. Two functions, this
-// and `cut_edge`, by a rule of the project: document 01 names the form.
-fn both_halves(e: Edge, t: f64, n: u32) -> Halves
+// Both halves of an edge that is cut at t by vertex n: the old one has the part of the curve up to t, the new one that from t on. The calls that
+// are handed a parameter cut by this one.
+pub fn both_halves(e: Edge, t: f64, n: u32) -> Halves
     ensures { result ≡ halves_of e t n }
 {
     let (t0, t1) = e.curve.range();
@@ -56,20 +51,23 @@ fn both_halves(e: Edge, t: f64, n: u32) -> Halves
     }
 }
 
-// `cut_edge`: the lent edge keeps its first half, and the second is handed back.
-pub fn cut_edge(e: &mut Edge, t: f64, n: u32) -> Edge
-    ensures { (e.new ≡ (halves_of e.old t n).old) × (result ≡ (halves_of e.old t n).new) }
+// `cut_edge`: the lent edge is cut k eighths of the way along its curve, where the Rust's is cut at the middle. It keeps its first half, and the
+// second is handed back.
+pub fn cut_edge(e: &mut Edge, k: u32, n: u32) -> Edge
+    ensures { let h = halves_of e.old (parameter_of k e.old.curve) n in
+        (e.new ≡ h.old) × (result ≡ h.new) }
 {
-    let h = both_halves(*e, t, n);
+    let h = both_halves(*e, parameter::parameter(e.curve, k), n);
     *e = h.old;
     h.new
 }
 
-// The vertex at the middle of an edge that is yet to be cut.
-pub fn pending(e: Edge) -> Vertex
-    ensures { result ≡ pending_of e }
+// The new vertex of an edge that is yet to be cut, pending k eighths of the way along its curve. Where the curve has no cause the vertex has none.
+pub fn pending(e: Edge, k: u32) -> Vertex
+    ensures exact { result ≡ pending_of (parameter_of k) e }
+    ensures accepted { curve_cause e.curve ≡ 0 → vertex_cause result ≡ 0 }
 {
     let curve = e.curve;
-    let t = middle(curve);
+    let t = parameter::parameter(curve, k);
     Vertex::Pending { curve, t }
 }

@@ -3,6 +3,7 @@
 
 pub mod cut_edge;
 pub mod mending;
+pub mod parameter;
 
 ghost use Rattle.std.specs.Prelude.{◌≡◌, ◌&&◌, ℕ, ◌+◌, ◌*◌, ◌≤◌, leb, length};
 ghost use Rattle.compress.specs.Refusals.{cause_of};

@@ -5,4 +5,5 @@ pub mod Bounds
 pub mod Mono
 pub mod Sized
 pub mod Middle
+pub mod Eighths
 pub mod Distance

@@ -1,11 +1,11 @@
 -- The midpoint of two floats lies between them, or at an end: for any signs, zeros and the smallest values too, as long as twice each is below the overflow. Assumes nothing.
-use Rattle.std.specs.Prelude.{◌≡◌, refl, ℕ, suc, ◌+◌, ◌*◌, ◌^◌, ◌≤◌, ◌<◌, false, T, Float}
+use Rattle.std.specs.Prelude.{◌≡◌, ℕ, suc, ◌+◌, ◌*◌, ◌^◌, ◌≤◌, ◌<◌, false, T, Float}
 use Rattle.std.proofs.Common.{sym, ap, ◌∙◌, subst, lt_of_le_of_lt, mul_assoc, mul-le-mul_right, pow-suc, arith, pow_pos}
 use Rattle.std.specs.Float.{nan, inf, fin, Format, binary64}
-use Rattle.std.specs.Float.Ieee.{emax, low, round, add, div, fits, le}
+use Rattle.std.specs.Float.Ieee.{emax, low, round, add, div, le}
 use Rattle.std.specs.Float.Ieee.Fits.{add-fits}
 use Rattle.compress.specs.Constants.{two64}
-use Rattle.floats.specs.Exact.{midpoint_of, Midpoint}
+use Rattle.floats.specs.Exact.{midpoint_of}
 use Rattle.floats.proofs.Sized.{Sized, two_held, two_sgn, two_mag, big_mag, sized_held, sized_mag}
 use Rattle.floats.proofs.Value.{sgn, place, mag, pv, nv, Held, plus_mul, less_mul, short_of, le→sle, round_rep}
 use Rattle.floats.proofs.Rounds.{held_between, rounds_ge, rounds_le, add_rounds, div_rounds}
@@ -77,8 +77,3 @@ sized_room h = lt_of_le_of_lt (mul-le-mul_right 2 (sized_mag h)) big_mag
 pub midpoint_between : {t0 t1 : Float} → Sized t0 → Sized t1 → T (le t0 t1) → T (le t0 (midpoint_of t0 t1)) × T (le (midpoint_of t0 t1) t1)
 midpoint_between {t0} {t1} a b l =
     halfway binary64 t0 t1 two64 (sized_held a) (sized_held b) two_held two_sgn two_mag (sized_room a) (sized_room b) l
-
--- so it meets what the contract says of it
-pub midpoint_meets : (t0 t1 : Float) → T (fits binary64 t0) → T (fits binary64 t1) → Midpoint t0 t1 (midpoint_of t0 t1)
-midpoint_meets t0 t1 f0 f1 =
-    record { exact = refl; between = λ s0 s1. midpoint_between (record { fit = f0; size = s0 }) (record { fit = f1; size = s1 }) }

@@ -4,7 +4,7 @@ use Rattle.std.proofs.Common.{le_trans, lit<, lit≤}
 use Rattle.std.specs.Float.{binary64}
 use Rattle.std.specs.Float.Ieee.{emax, low, neg, fits, le, of_bits}
 use Rattle.std.specs.Float.Ieee.Fits.{and_l, and_r}
-use Rattle.compress.specs.Constants.{two64}
+use Rattle.compress.specs.Constants.{two64, eight64}
 use Rattle.floats.specs.Exact.{big, sized_of}
 use Rattle.floats.proofs.Value.{sgn, mag, Held}
 use Rattle.floats.proofs.Rounds.{held_between, neg_held}
@@ -22,6 +22,18 @@ two_sgn = refl
 pub two_mag : mag binary64 two64 ≡ 2 * 2 ^ low binary64
 unfolding of_bits
 two_mag = refl
+
+pub eight_held : Held binary64 eight64
+unfolding of_bits fits
+eight_held = record { fit = tt; bounded = tt }
+
+pub eight_sgn : sgn eight64 ≡ false
+unfolding of_bits
+eight_sgn = refl
+
+pub eight_mag : mag binary64 eight64 ≡ 2 ^ 1077
+unfolding of_bits
+eight_mag = refl
 
 pub big_held : Held binary64 big
 unfolding of_bits fits

@@ -1,8 +1,8 @@
 -- What the functions of the crate return, to the bit: definitions only. Each `add`, `sub`, `mul` and `div` is one IEEE 754 operation with one rounding.
-use Rattle.std.specs.Prelude.{◌≡◌, Bool, ◌&&◌, T, Float}
+use Rattle.std.specs.Prelude.{◌≡◌, Bool, ◌&&◌, ℕ, eqb, cond, pos, T, Float}
 use Rattle.std.specs.Float.{binary64}
-use Rattle.std.specs.Float.Ieee.{add, sub, mul, div, le, neg, of_bits}
-use Rattle.compress.specs.Constants.{two64}
+use Rattle.std.specs.Float.Ieee.{add, sub, mul, div, le, lt, neg, of_bits, of_int}
+use Rattle.compress.specs.Constants.{two64, eight64}
 
 -- the f64 1.0e15, by its bits
 abbrev pub big : Float
@@ -16,10 +16,27 @@ sized_of x = le (neg big) x && le x big
 abbrev pub midpoint_of : Float → Float → Float
 midpoint_of t0 t1 = div binary64 (add binary64 t0 t1) two64
 
--- Of r, the cut parameter of t0 to t1. The same place of document 01: "the midpoint never leaves the range from t0 to t1. It may equal an end."
-pub record Midpoint (t0 t1 r : Float) : Type 0 where
-  pub exact : r ≡ midpoint_of t0 t1
-  pub between : T (sized_of t0) → T (sized_of t1) → T (le t0 t1) → T (le t0 r) × T (le r t1)
+-- Document 02, A.3: "t0 + (t1 - t0) × k / 8, one rounding a step from left to right". Each k below 2 ^ 53 is an f64, with no rounding.
+abbrev pub eighths_on : ℕ → Float → Float → Float
+eighths_on k t0 t1 = add binary64 t0 (div binary64 (mul binary64 (sub binary64 t1 t0) (of_int binary64 (pos k))) eight64)
+
+-- "a value beyond either end becomes that end": by the comparisons of IEEE 754, so 0.0 is not beyond -0.0
+abbrev pub kept_within : Float → Float → Float → Float
+kept_within t0 t1 t = cond (lt t t0) t0 (cond (lt t1 t) t1 t)
+
+-- "The helper that picks the cut parameter shall take a whole number k of eighths, 1 to 7. For 4 it is 01's formula; otherwise" the one above.
+unfoldable pub cut_parameter_of : ℕ → Float → Float → Float
+cut_parameter_of k t0 t1 = cond (eqb k 4) (midpoint_of t0 t1) (kept_within t0 t1 (eighths_on k t0 t1))
+
+-- t is in the range from t0 to t1, the ends included
+abbrev pub Within : Float → Float → Float → Type 0
+Within t0 t1 t = T (le t0 t) × T (le t t1)
+
+-- Of r, the cut parameter of t0 to t1. "the bound that the parameter never leaves its range is for every k", those outside 1 to 7 too; document 01:
+-- "It may equal an end."
+pub record CutParameter (k : ℕ) (t0 t1 r : Float) : Type 0 where
+  pub exact : r ≡ cut_parameter_of k t0 t1
+  pub between : T (sized_of t0) → T (sized_of t1) → T (le t0 t1) → Within t0 t1 r
 
 -- a square, with its one rounding
 abbrev pub square_of : Float → Float

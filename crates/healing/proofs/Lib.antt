@@ -1,3 +1,3 @@
 -- The law of the split's export.
 pub mod Demand
-pub mod Middles
+pub mod Within

@@ -4,7 +4,9 @@ use Rattle.compress.specs.declared.Uv.{Uv}
 use Rattle.compress.specs.Said.{Said, result, none, refused, on_result}
 use Rattle.compress.specs.declared.Counts.{Counts}
 use Rattle.compress.specs.Shell.{Slices}
+use Rattle.floats.specs.Exact.{Within}
 use Rattle.cutting.specs.Contract.{Outcome}
+use Rattle.cutting.specs.parameter.Eighths.{cut_parameter_said}
 use Rattle.join.specs.joined.Outcome.{JoinOutcome}
 use Rattle.split_closed_edges.specs.add_edges.Steps.{VerticesPass}
 use Rattle.split.specs.declared.Boundaries.{Boundaries}
@@ -49,9 +51,14 @@ pub record HostShell (o : Outcome) (before after : Counts) (slices : Slices) (r 
   pub told : Told o.said before after r
   pub lent : slices ≡ o.slices
 
--- "The midpoint never leaves the range from t0 to t1", of what the pass leaves to a host: where the code is 0, no vertex below the count that is told
--- has a cause, and so the parameter of each new one lies within the range of its curve.
-pub record HostMiddles (after : Counts) (slices : Slices) (r : ℤ) : Type 0 where
+-- ---- the cut parameter, for a host: where the code is 0 it is within its range
+pub record HostCutParameter (k : ℕ) (t0 t1 before after : Float) (r : ℤ) : Type 0 where
+  pub told : Told (cut_parameter_said k t0 t1) before after r
+  pub within : r ≡ pos 0 → Within t0 t1 after
+
+-- "the parameter never leaves its range", of what the pass leaves to a host: where the code is 0, no vertex below the count that is told has a cause,
+-- and so the parameter of each new one lies within the range of its curve.
+pub record HostVerticesPass (after : Counts) (slices : Slices) (r : ℤ) : Type 0 where
   pub within : r ≡ pos 0 → VerticesPass slices.vn slices.vf after.vertices
 
 -- ---- the join of open wires, for a host

@@ -6,6 +6,7 @@ mod codes;
 mod cut;
 mod joins;
 mod kinds;
+mod parameters;
 mod periods;
 mod search;
 mod splits;
@@ -13,13 +14,13 @@ mod splits;
 ghost use Rattle.compress.specs.declared.Counts.{Counts};
 ghost use Rattle.compress.specs.Shell.{Slices, Lent};
 ghost use Rattle.split_closed_edges.specs.Contract.{outcome_of};
-ghost use Rattle.healing.specs.Host.{HostShell, HostMiddles};
+ghost use Rattle.healing.specs.Host.{HostShell, HostVerticesPass};
 
 use rows::lent::WiresMut;
 use rows::tables::TableMut;
 
-// Every closed edge is cut and every wire mended, in place. 0: done, and the three places hold the new counts of vertices, edges and uses.
-// Else the number of the refusal, and nothing lent is changed.
+// Every closed edge is cut, k eighths of the way along its curve, and every wire mended, in place. 0: done, and the three places hold the new counts of
+// vertices, edges and uses. Else the number of the refusal, and nothing lent is changed.
 #[unsafe(no_mangle)]
 pub extern "C" fn kaugrenna_split_closed_edges(
     vertex_numbers: &mut [u32],
@@ -31,6 +32,7 @@ pub extern "C" fn kaugrenna_split_closed_edges(
     vertices: usize,
     edges: usize,
     wires: usize,
+    k: u32,
     vertices_out: &mut usize,
     edges_out: &mut usize,
     uses_out: &mut usize,
@@ -59,8 +61,8 @@ pub extern "C" fn kaugrenna_split_closed_edges(
           ls = lengths.new;
         } in
         record {
-          outcome : HostShell (outcome_of lent) before after left result;
-          middles : HostMiddles after left result;
+          outcome : HostShell (outcome_of k lent) before after left result;
+          parameters : HostVerticesPass after left result;
         } }
 {
     let mut vs = TableMut::new(vertex_numbers, vertex_floats, vertices);
@@ -70,6 +72,6 @@ pub extern "C" fn kaugrenna_split_closed_edges(
         lengths,
         count: wires,
     };
-    let answer = split_closed_edges::split_closed_edges(&mut vs, &mut es, &mut ws);
+    let answer = split_closed_edges::split_closed_edges(&mut vs, &mut es, &mut ws, k);
     codes::tell_counts(answer, vertices_out, edges_out, uses_out)
 }

@@ -87,9 +87,8 @@ pub(crate) fn put_cut(vertices: &mut TableMut<Vertex>, edges: &mut TableMut<Edge
 {
     let n = vertices.count;
     let m = edges.count;
-    let mut first = edges.view().at(i);
-    let second = cutting::cut_edge::cut_edge(&mut first, c.t, n as u32);
+    let halves = cutting::cut_edge::both_halves(edges.view().at(i), c.t, n as u32);
     vertices.put(n, Vertex::from(c.point));
-    edges.put(i, first);
-    edges.put(m, second);
+    edges.put(i, halves.old);
+    edges.put(m, halves.new);
 }

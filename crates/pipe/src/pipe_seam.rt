@@ -11,10 +11,10 @@ use rows::lent;
 use rows::tables::TableMut;
 use split::seams::Divisor;
 
-// The uv points of the two vertices: the second's is the copy of it that is nearest to the first's.
-fn seam_points(d: Ends) -> Result<[f64; 4], Refusal> {
-    let p = pipe_shell::uv_of(d.v0);
-    let q = pipe_shell::uv_of(d.v1);
+// The uv points of the two vertices, where the rims are cut by k: the second's is the copy of it that is nearest to the first's.
+fn seam_points(d: Ends, k: u32) -> Result<[f64; 4], Refusal> {
+    let p = pipe_shell::uv_of(d.v0, k);
+    let q = pipe_shell::uv_of(d.v1, k);
     let near = periodic::nearest_copy(p, q, Some(pipe_shell::TURN), None)?;
     Ok([p.u, p.v, near.u, near.v])
 }
@@ -22,11 +22,11 @@ fn seam_points(d: Ends) -> Result<[f64; 4], Refusal> {
 // Splits the face along the seam between two vertices, with so many of its wires, from the first on, to be rebuilt.
 // The table to write is put together here: after a loan by `table_mut` nothing is known of what the shell's table holds, and `outcome` fails.
 // The words for what a loan leaves are for a reference or a pair of them, and not for a struct.
-fn split_along(rt: &impl Print, s: &Shell, d: Ends, rebuilt: usize) -> Result<Shell, Stop>
+fn split_along(rt: &impl Print, s: &Shell, d: Ends, rebuilt: usize, k: u32) -> Result<Shell, Stop>
     ensures same { IfOk result (λ left. left.vertices ≡ s.now.vertices) }
     ensures outcome { IfOk result (λ left. SplitAlong s.now d rebuilt left) }
 {
-    let points = seam_points(d)?;
+    let points = seam_points(d, k)?;
     let none = Wires {
         uses: [0; 8],
         lengths: [0; 8],
@@ -63,19 +63,19 @@ fn split_along(rt: &impl Print, s: &Shell, d: Ends, rebuilt: usize) -> Result<Sh
 }
 
 // Splits with the seam between the rims. Both rims are open, so that no wire is to be rebuilt.
-pub fn split_seam(rt: &impl Print, s: &Shell, d: Ends) -> Result<Shell, Stop>
+pub fn split_seam(rt: &impl Print, s: &Shell, d: Ends, k: u32) -> Result<Shell, Stop>
     ensures same { IfOk result (λ left. left.vertices ≡ s.now.vertices) }
     ensures outcome { IfOk result (λ left. SplitAlong s.now d 0 left) }
 {
     print!(rt; "4. split with the seam:")?;
-    split_along(rt, s, d, 0)
+    split_along(rt, s, d, 0, k)
 }
 
 // Splits along the vertices that the search has found. All wires are to be rebuilt.
-pub fn split_again(rt: &impl Print, s: &Shell, d: Ends) -> Result<Shell, Stop>
+pub fn split_again(rt: &impl Print, s: &Shell, d: Ends, k: u32) -> Result<Shell, Stop>
     ensures same { IfOk result (λ left. left.vertices ≡ s.now.vertices) }
     ensures outcome { IfOk result (λ left. SplitAlong s.now d s.now.wires.count left) }
 {
     print!(rt; "7. second split:")?;
-    split_along(rt, s, d, s.wires.count)
+    split_along(rt, s, d, s.wires.count, k)
 }

@@ -6,6 +6,7 @@ pub mod pipe_tally;
 pub mod writing;
 
 ghost use Rattle.std.specs.Prelude.{◌≡◌, drop, get_or, replicate};
+ghost use Rattle.pipe_shell.specs.Projected.{u_of};
 
 use compress::{
     Curve, Edge, FLOATS_PER_EDGE, FLOATS_PER_VERTEX, NUMBERS_PER_EDGE, NUMBERS_PER_VERTEX,
@@ -19,7 +20,8 @@ use std::marker::PhantomData;
 // Once round the pipe.
 pub const TURN: f64 = 6.283185307179586;
 
-const HALF_TURN: f64 = 3.141592653589793;
+// Half the square root of 2: the cosine of an eighth of a turn.
+const HALF_ROOT: f64 = 0.7071067811865476;
 
 const HEIGHT: f64 = 4.0;
 
@@ -183,23 +185,40 @@ impl Wires {
     }
 }
 
-// The point of a vertex, as a host evaluates it: 0 and 1 where the rims begin, 2 and 3 where they will be cut.
-fn point_of(v: usize) -> Vertex {
+// The cosine of so many eighths of a turn.
+fn cosine(eighths: u32) -> f64 {
+    match eighths % 8 {
+        0 => 1.0,
+        1 | 7 => HALF_ROOT,
+        2 | 6 => 0.0,
+        3 | 5 => -HALF_ROOT,
+        _ => -1.0,
+    }
+}
+
+// The sine: the cosine of six eighths more.
+fn sine(eighths: u32) -> f64 {
+    cosine(eighths % 8 + 6)
+}
+
+// The point of a vertex, as a host evaluates it: 0 and 1 where the rims begin, 2 and 3 where they will be cut, k eighths of the way round.
+fn point_of(v: usize, k: u32) -> Vertex {
+    let eighths = if v < 2 { 0 } else { k };
     Vertex::Given {
-        x: if v < 2 { 1.0 } else { -1.0 },
-        y: 0.0,
+        x: cosine(eighths),
+        y: sine(eighths),
         z: if v % 2 == 0 { 0.0 } else { HEIGHT },
     }
 }
 
-// So many given vertices.
-pub fn given(count: usize) -> Vertices
+// So many given vertices, where the rims are cut by k.
+pub fn given(count: usize, k: u32) -> Vertices
     ensures { result.count ≡ count }
 {
     let mut vertices = Vertices::zeros(VERTICES);
     let mut table = vertices.table_mut();
     for v in 0..VERTICES {
-        table.put(v, point_of(v));
+        table.put(v, point_of(v, k));
     }
     vertices.count = count;
     vertices
@@ -231,7 +250,7 @@ fn rims() -> Edges {
 // The pipe as a drawing office sends it, with the wires 0+ and 1-.
 pub fn burner_pipe() -> Shell {
     Shell {
-        vertices: given(2),
+        vertices: given(2, 0),
         edges: rims(),
         wires: Wires {
             uses: [0, 3, 0, 0, 0, 0, 0, 0],
@@ -241,10 +260,16 @@ pub fn burner_pipe() -> Shell {
     }
 }
 
-// The uv point of a vertex, as a host projects it: 0 and 1 at the start of the turn, 2 and 3 halfway.
-pub fn uv_of(v: u32) -> Uv {
+// The uv point of a vertex, as a host projects it: 0 and 1 at the start of the turn, 2 and 3 where the rims are cut by k.
+pub fn uv_of(v: u32, k: u32) -> Uv
+    ensures { result.u ≡ u_of v k }
+{
     Uv {
-        u: if v < 2 { 0.0 } else { HALF_TURN },
+        u: if v < 2 {
+            0.0
+        } else {
+            floats::cut_parameter(0.0, TURN, k)
+        },
         v: if v % 2 == 0 { 0.0 } else { HEIGHT },
     }
 }

@@ -26,11 +26,12 @@ fn read_shell(list: &mut Reader<'_>) -> Result<Shell, Damaged>
 }
 
 // Makes the call split_closed_edges, which writes to the shell.
-fn pass(c: Counts, wires: usize, s: &mut Shell) -> Answer<usize, 3> {
+fn pass(c: Counts, wires: usize, k: u32, s: &mut Shell) -> Answer<usize, 3> {
     Answer::from(split_closed_edges::split_closed_edges(
         &mut s.vertices.lent_mut(c.vertices),
         &mut s.edges.lent_mut(c.edges),
         &mut s.wires.lent_mut(wires),
+        k,
     ))
 }
 
@@ -40,7 +41,8 @@ pub fn replay_pass(list: &mut Reader<'_>) -> Result<(), Damaged>
 {
     let counts = Counts::read(list)?;
     let wires = usize::next(list)?;
+    let k = u32::next(list)?;
     let mut shell = read_shell(list)?;
-    pass(counts, wires, &mut shell).compare(list)?;
+    pass(counts, wires, k, &mut shell).compare(list)?;
     shell.compare(list)
 }

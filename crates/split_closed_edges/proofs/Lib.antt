@@ -1,4 +1,4 @@
 pub mod Outcome
 pub mod Laws
-pub mod Preparations
 pub mod Reading
+pub mod Preparations

@@ -9,6 +9,7 @@ use lib.ListN.{length, get_or, take, drop, length-append}
 use lib.Seq.{take_at}
 use lib.Dec.{leb}
 use lib.Ieee.{Float}
+use Rattle.compress.specs.declared.Curve.{Curve}
 use Rattle.compress.specs.declared.Edge.{Edge}
 use Rattle.compress.specs.Records.{closed, pick}
 use Rattle.compress.specs.Layout.{rows, store}
@@ -30,6 +31,7 @@ use Rattle.split_closed_edges.specs.add_edges.Steps.{closed_count, Addable, Adde
 use Rattle.split_closed_edges.specs.Steps.{closed_in, uses_told, ClosedMended}
 use Rattle.cutting.specs.mending.Steps.{AreNumbers, InPlace, count_told}
 use Rattle.cutting.specs.Contract.{turned_away, lent_of, leaves, input_cause}
+use Rattle.cutting.specs.parameter.Eighths.{eighths_cause, parameter_of}
 use Rattle.split_closed_edges.specs.Contract.{outcome_of}
 use Rattle.split_closed_edges.proofs.add_edges.Edges.{length_kept}
 use Rattle.compress.specs.declared.Refusal.TheVariants as refusal
@@ -39,23 +41,23 @@ use Rattle.cutting.specs.declared.mending.NoRoom.{NoRoom}
 use Rattle.cutting.proofs.Outcome.{Accepted, accepted, no_cause, vertices_stand, result_full, result_done}
 
 -- ---- as many new edges and new vertices as closed edges
-new_edge_length : (b : Bool) (n : ℕ) (e : Edge) (es : List Edge) (k : ℕ) → length es ≡ k → length (new_edge b n e ++ es) ≡ next b k
-new_edge_length true n e es k p = omega arith
-new_edge_length false n e es k p = p
+new_edge_length : (at : Curve → Float) (b : Bool) (n : ℕ) (e : Edge) (es : List Edge) (k : ℕ) → length es ≡ k → length (new_edge at b n e ++ es) ≡ next b k
+new_edge_length at true n e es k p = omega arith
+new_edge_length at false n e es k p = p
 
-pub length_new : (es : List Edge) (n : ℕ) → length (new_edges n es) ≡ closed_count es
+pub length_new : (at : Curve → Float) (es : List Edge) (n : ℕ) → length (new_edges at n es) ≡ closed_count es
 unfolding new_edges closed_count
-length_new [] n = refl
-length_new (e ∷ es) n = new_edge_length (closed e) n e (new_edges (next (closed e) n) es) (closed_count es) (length_new es (next (closed e) n))
+length_new at [] n = refl
+length_new at (e ∷ es) n = new_edge_length at (closed e) n e (new_edges at (next (closed e) n) es) (closed_count es) (length_new at es (next (closed e) n))
 
-new_vertex_length : (b : Bool) (e : Edge) (es : List Edge) (k : ℕ) → length (new_vertices es) ≡ k → length (new_vertex b e ++ new_vertices es) ≡ next b k
-new_vertex_length true e es k p = omega arith
-new_vertex_length false e es k p = p
+new_vertex_length : (at : Curve → Float) (b : Bool) (e : Edge) (es : List Edge) (k : ℕ) → length (new_vertices at es) ≡ k → length (new_vertex at b e ++ new_vertices at es) ≡ next b k
+new_vertex_length at true e es k p = omega arith
+new_vertex_length at false e es k p = p
 
-pub length_vertices : (es : List Edge) → length (new_vertices es) ≡ closed_count es
+pub length_vertices : (at : Curve → Float) (es : List Edge) → length (new_vertices at es) ≡ closed_count es
 unfolding new_vertices closed_count
-length_vertices [] = refl
-length_vertices (e ∷ es) = new_vertex_length (closed e) e es (closed_count es) (length_vertices es)
+length_vertices at [] = refl
+length_vertices at (e ∷ es) = new_vertex_length at (closed e) e es (closed_count es) (length_vertices at es)
 
 pub count_le : (es : List Edge) → closed_count es ≤ length es
 unfolding closed_count
@@ -129,12 +131,18 @@ edge_passes v e q = (lower_none (vertex_number_cause v e.back) _ (lower_none (ve
 
 -- ---- the ways out of the call
 
-module _ (vn : List ℕ) (vf : List Float) (en : List ℕ) (ef : List Float) (us ls : List ℕ) (v e w : ℕ) where
+module _ (vn : List ℕ) (vf : List Float) (en : List ℕ) (ef : List Float) (us ls : List ℕ) (v e w k : ℕ) where
   -- a cause: its refusal, and nothing written
   pub outcome_cause : (r : Refusal) → refusal_number r ≡ input_cause (lent_of vn vf en ef us ls v e w)
-      → leaves (Err r) vn vf en ef us ls ≡ outcome_of (lent_of vn vf en ef us ls v e w)
+      → leaves (Err r) vn vf en ef us ls ≡ outcome_of k (lent_of vn vf en ef us ls v e w)
   unfolding outcome_of
   outcome_cause r q = cause_met r _ (turned_away _) _ q
+
+  -- no such cause, and no k from 1 to 7: 18, and nothing written
+  pub outcome_eighths : (r : Refusal) → input_cause (lent_of vn vf en ef us ls v e w) ≡ 0 → refusal_number r ≡ eighths_cause k
+      → leaves (Err r) vn vf en ef us ls ≡ outcome_of k (lent_of vn vf en ef us ls v e w)
+  unfolding outcome_of
+  outcome_eighths r z q = rw z (cause_met r (eighths_cause k) (turned_away _) _ q)
 
   -- the wires can be mended
   pub closable : input_cause (lent_of vn vf en ef us ls v e w) ≡ 0 → (e ≤ 4096) × (e * numbers_per_edge ≤ length en) × (wires_cause e us ls w ≡ 0)
@@ -146,10 +154,10 @@ module _ (vn : List ℕ) (vf : List Float) (en : List ℕ) (ef : List Float) (us
   edges_in = rows (edge_at en ef) 0 e
 
   abbrev after : Shell
-  after = split_closed_edges (load (lent_of vn vf en ef us ls v e w))
+  after = split_closed_edges (parameter_of k) (load (lent_of vn vf en ef us ls v e w))
 
-  module _ (z : input_cause (lent_of vn vf en ef us ls v e w) ≡ 0) (room : ℕ)
-      (has : (k : ℕ) → leb k room ≡ (vertices_fit vn vf (v + k) && edges_fit en ef (e + k)))
+  module _ (z : input_cause (lent_of vn vf en ef us ls v e w) ≡ 0) (s : eighths_cause k ≡ 0) (room : ℕ)
+      (has : (j : ℕ) → leb j room ≡ (vertices_fit vn vf (v + j) && edges_fit en ef (e + j)))
       (us' ls' : List ℕ) (m : Result Closing NoRoom) (M : ClosedMended en e w room us ls us' ls' m) where
     A : Accepted vn vf en ef us ls v e w
     A = accepted vn vf en ef us ls v e w z
@@ -164,23 +172,23 @@ module _ (vn : List ℕ) (vf : List Float) (en : List ℕ) (ef : List Float) (us
     unfolding split_closed_edges load
     vertices_are =
         let lv : length (rows (vertex_at vn vf) 0 v) ≡ v = length_rows (vertex_at vn vf) 0 v in
-        length-append (rows (vertex_at vn vf) 0 v) (new_vertices edges_in) ∙ omega (arith, lv, length_vertices edges_in)
+        length-append (rows (vertex_at vn vf) 0 v) (new_vertices (parameter_of k) edges_in) ∙ omega (arith, lv, length_vertices (parameter_of k) edges_in)
 
     edges_are : length after.edges ≡ e + cuts
     unfolding split_closed_edges load
     edges_are =
         let n = length (rows (vertex_at vn vf) 0 v) in
         let le : length edges_in ≡ e = length_rows (edge_at en ef) 0 e in
-        length-append (kept_edges n edges_in) (new_edges n edges_in) ∙ omega (arith, le, length_kept edges_in n, length_new edges_in n)
+        length-append (kept_edges (parameter_of k) n edges_in) (new_edges (parameter_of k) n edges_in) ∙ omega (arith, le, length_kept (parameter_of k) edges_in n, length_new (parameter_of k) edges_in n)
 
     mended : InPlace after.wires (leb cuts room) us ls us' ls' (uses_told m)
     unfolding split_closed_edges load
     mended = M.mended ef
 
     -- no room: 6, and nothing written
-    pub outcome_full : (x : NoRoom) → m ≡ Err x → leaves (Err refusal.NoRoom) vn vf en ef us' ls' ≡ outcome_of (lent_of vn vf en ef us ls v e w)
+    pub outcome_full : (x : NoRoom) → m ≡ Err x → leaves (Err refusal.NoRoom) vn vf en ef us' ls' ≡ outcome_of k (lent_of vn vf en ef us ls v e w)
     unfolding outcome_of
-    outcome_full x q = rw z (result_full vn vf en ef us ls v e w after cuts vertices_are edges_are room has us' ls' _ mended (rw q))
+    outcome_full x q = rw (z, s) (result_full vn vf en ef us ls v e w after cuts vertices_are edges_are room has us' ls' _ mended (rw q))
 
     -- room: every table can be written
     module _ (x : Closing) (q : m ≡ Ok x) where
@@ -212,19 +220,19 @@ module _ (vn : List ℕ) (vf : List Float) (en : List ℕ) (ef : List Float) (us
           }
 
     -- what `add_edges` left is the result, stored
-    tables : (vn' : List ℕ) (vf' : List Float) (en' : List ℕ) (ef' : List Float) → Added v e vn vf en ef vn' vf' en' ef'
+    tables : (vn' : List ℕ) (vf' : List Float) (en' : List ℕ) (ef' : List Float) → Added (parameter_of k) v e vn vf en ef vn' vf' en' ef'
         → (vn' ≡ store vertex_number_layout vn after.vertices) × (vf' ≡ store vertex_float_layout vf after.vertices)
         × (en' ≡ store edge_number_layout en after.edges) × (ef' ≡ store edge_float_layout ef after.edges)
     unfolding split_closed_edges load
     tables vn' vf' en' ef' T =
         let lv : length (rows (vertex_at vn vf) 0 v) ≡ v = length_rows (vertex_at vn vf) 0 v in
-        let s = vertices_stand vn vf en ef us ls v e w A (new_vertices edges_in) in
-        (rw s.0 T.vertex_numbers, rw s.1 T.vertex_floats, rw lv T.edge_numbers, rw lv T.edge_floats)
+        let p = vertices_stand vn vf en ef us ls v e w A (new_vertices (parameter_of k) edges_in) in
+        (rw p.0 T.vertex_numbers, rw p.1 T.vertex_floats, rw lv T.edge_numbers, rw lv T.edge_floats)
 
-    pub outcome_done : (x : Closing) → m ≡ Ok x → (vn' : List ℕ) (vf' : List Float) (en' : List ℕ) (ef' : List Float) → Added v e vn vf en ef vn' vf' en' ef'
-        → leaves (Ok (record { vertices = v + x.cuts; edges = e + x.cuts; uses = x.uses })) vn' vf' en' ef' us' ls' ≡ outcome_of (lent_of vn vf en ef us ls v e w)
+    pub outcome_done : (x : Closing) → m ≡ Ok x → (vn' : List ℕ) (vf' : List Float) (en' : List ℕ) (ef' : List Float) → Added (parameter_of k) v e vn vf en ef vn' vf' en' ef'
+        → leaves (Ok (record { vertices = v + x.cuts; edges = e + x.cuts; uses = x.uses })) vn' vf' en' ef' us' ls' ≡ outcome_of k (lent_of vn vf en ef us ls v e w)
     unfolding outcome_of
     outcome_done x q vn' vf' en' ef' T =
-        let s = tables vn' vf' en' ef' T in
+        let p = tables vn' vf' en' ef' T in
         let t : count_told (uses_told m) ≡ x.uses = rw q in
-        rw (cuts_are x q, ← t, z) (result_done vn vf en ef us ls v e w after cuts vertices_are edges_are room has us' ls' _ mended vn' vf' en' ef' (told x q) s.0 s.1 s.2 s.3)
+        rw (cuts_are x q, ← t, z, s) (result_done vn vf en ef us ls v e w after cuts vertices_are edges_are room has us' ls' _ mended vn' vf' en' ef' (told x q) p.0 p.1 p.2 p.3)

@@ -37,6 +37,6 @@ abbrev pub closed_mended : Table Edge → ℕ → WiresMut → WiresMut → Resu
 closed_mended edges room before after r =
     ClosedMended edges.numbers.now edges.count before.count room before.uses.now before.lengths.now after.uses.now after.lengths.now r
 
--- "The midpoint never leaves the range from t0 to t1", said of what the pass leaves: where it tells counts, no vertex below them has a cause
-abbrev pub MiddlesWithin : Result Counts Refusal → TableMut Vertex → Type 0
-MiddlesWithin r v = IfOk r (λ c. VerticesPass v.numbers.now v.floats.now c.vertices)
+-- "the parameter never leaves its range", said of what the pass leaves: where it tells counts, no vertex below them has a cause
+abbrev pub ParametersWithin : Result Counts Refusal → TableMut Vertex → Type 0
+ParametersWithin r v = IfOk r (λ c. VerticesPass v.numbers.now v.floats.now c.vertices)

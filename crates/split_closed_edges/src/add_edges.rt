@@ -1,9 +1,11 @@
-// `add_edges` of document 001: every edge with equal ends is cut at the middle of its curve, in the tables; and the map that tells which edges were cut.
+// `add_edges` of document 001: every edge with equal ends is cut k eighths of the way along its curve, in the tables; and the map that tells which
+// edges were cut.
 
 ghost use Rattle.std.specs.Prelude.{◌≡◌, true, List, Float, ◌+◌, ◌*◌, ◌≤◌, ◌<◌, length};
 ghost use Rattle.compress.specs.Records.{closed};
 ghost use Rattle.checks.specs.Causes.{curve_cause, vertex_cause};
 ghost use Rattle.cutting.specs.cut_edge.Cut.{pending_of};
+ghost use Rattle.cutting.specs.parameter.Eighths.{parameter_of};
 ghost use Rattle.rows.specs.Held.{edge_in};
 ghost use Rattle.rows.specs.Places.{SameTable};
 ghost use Rattle.compress.specs.Layout.{rows};
@@ -16,13 +18,14 @@ use rows::tables::{Table, TableMut};
 
 // ---- the tables
 
-// One turn of `add_edges`: where edge i is closed it is cut by vertex n, and its second half becomes edge m.
+// One turn of `add_edges`: where edge i is closed it is cut by vertex n, k eighths of the way along its curve, and its second half becomes edge m.
 fn add_edge(
     vertices: &mut TableMut<Vertex>,
     edges: &mut TableMut<Edge>,
     i: usize,
     n: usize,
     m: usize,
+    k: u32,
 ) -> bool
     requires i_in_bounds { HasEdge edges.old.numbers.now edges.old.floats.now i }
     requires place_for { let v = vertices.old in
@@ -30,15 +33,15 @@ fn add_edge(
         closed (edge_in e i) ≡ true → PlaceFor n m v.numbers.now v.floats.now e.numbers.now e.floats.now }
     ensures value { result ≡ closed (edge_in edges.old i) }
     ensures accepted { let e = edge_in edges.old i in
-        result ≡ true → curve_cause e.curve ≡ 0 → vertex_cause (pending_of e) ≡ 0 }
+        result ≡ true → curve_cause e.curve ≡ 0 → vertex_cause (pending_of (parameter_of k) e) ≡ 0 }
     ensures vertex_numbers_after { let e = edge_in edges.old i in
-        vertices.new.numbers.now ≡ pending_row vertex_number_layout result n e vertices.old.numbers.now }
+        vertices.new.numbers.now ≡ pending_row vertex_number_layout (parameter_of k) result n e vertices.old.numbers.now }
     ensures vertex_floats_after { let e = edge_in edges.old i in
-        vertices.new.floats.now ≡ pending_row vertex_float_layout result n e vertices.old.floats.now }
+        vertices.new.floats.now ≡ pending_row vertex_float_layout (parameter_of k) result n e vertices.old.floats.now }
     ensures edge_numbers_after { let e = edge_in edges.old i in
-        edges.new.numbers.now ≡ cut_rows edge_number_layout result n i m e edges.old.numbers.now }
+        edges.new.numbers.now ≡ cut_rows edge_number_layout (parameter_of k) result n i m e edges.old.numbers.now }
     ensures edge_floats_after { let e = edge_in edges.old i in
-        edges.new.floats.now ≡ cut_rows edge_float_layout result n i m e edges.old.floats.now }
+        edges.new.floats.now ≡ cut_rows edge_float_layout (parameter_of k) result n i m e edges.old.floats.now }
     ensures same_vertices { SameTable vertices.old vertices.new }
     ensures same_edges { SameTable edges.old edges.new }
 {
@@ -47,12 +50,8 @@ fn add_edge(
         return false;
     }
     let mut first = e;
-    let second = cutting::cut_edge::cut_edge(
-        &mut first,
-        cutting::cut_edge::middle(e.curve),
-        n as u32,
-    );
-    vertices.put(n, cutting::cut_edge::pending(e));
+    let second = cutting::cut_edge::cut_edge(&mut first, k, n as u32);
+    vertices.put(n, cutting::cut_edge::pending(e, k));
     edges.put(i, first);
     edges.put(m, second);
     true
@@ -61,13 +60,13 @@ fn add_edge(
 // `add_edges`: closed edges are cut in rising number, and appended ones are not looked at again. Rows are counted here and not in the tables, whose
 // counts stay as they were lent: with a `push` that counts there, each function that writes a table would say besides what its count becomes, and
 // `SameTable` would be two records. So in `cuts` and `seams` too.
-pub fn add_edges(vertices: &mut TableMut<Vertex>, edges: &mut TableMut<Edge>)
+pub fn add_edges(vertices: &mut TableMut<Vertex>, edges: &mut TableMut<Edge>, k: u32)
     requires { let v = vertices.old in
         let e = edges.old in
         Addable v.count e.count v.numbers.now v.floats.now e.numbers.now e.floats.now }
     ensures added { let v = vertices.old in
         let e = edges.old in
-        Added v.count e.count v.numbers.now v.floats.now e.numbers.now e.floats.now
+        Added (parameter_of k) v.count e.count v.numbers.now v.floats.now e.numbers.now e.floats.now
         vertices.new.numbers.now vertices.new.floats.now edges.new.numbers.now edges.new.floats.now }
     ensures same_vertices { SameTable vertices.old vertices.new }
     ensures same_edges { SameTable edges.old edges.new }
@@ -75,7 +74,7 @@ pub fn add_edges(vertices: &mut TableMut<Vertex>, edges: &mut TableMut<Edge>)
     let mut n = vertices.count;
     let mut m = edges.count;
     for i in 0..edges.count {
-        if add_edge(vertices, edges, i, n, m) {
+        if add_edge(vertices, edges, i, n, m, k) {
             n += 1;
             m += 1;
         }

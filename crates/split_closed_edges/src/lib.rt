@@ -1,4 +1,5 @@
-// Document 001, `split_closed_edges.rs`: every edge with equal ends is cut at the middle of its curve, and the wires are mended.
+// Document 001, `split_closed_edges.rs`: every edge with equal ends is cut k eighths of the way along its curve, and the wires are mended. The Rust's is
+// the one for 4, at the middle.
 #![tactic(auto)]
 
 mod add_edges;
@@ -8,7 +9,8 @@ ghost use Rattle.checks.specs.Causes.{wires_cause};
 ghost use Rattle.rows.specs.Places.{SameTable, SameWires};
 ghost use Rattle.cutting.specs.Contract.{input_cause};
 ghost use Rattle.cutting.specs.Lent.{lent, left};
-ghost use Rattle.split_closed_edges.specs.Steps.{closed_mended, MiddlesWithin};
+ghost use Rattle.cutting.specs.parameter.Eighths.{eighths_cause};
+ghost use Rattle.split_closed_edges.specs.Steps.{closed_mended, ParametersWithin};
 ghost use Rattle.split_closed_edges.specs.Contract.{outcome_of};
 ghost use Rattle.compress.specs.Rows.{numbers_per_edge};
 
@@ -56,22 +58,23 @@ fn mend_closed(edges: &Table<Edge>, wires: &mut WiresMut, room: usize) -> Result
     }
 }
 
-// The pass over a shell that has none of the causes 1 to 5. Nothing lent is written before the room for all of the result is judged.
+// The pass over a shell that has none of the causes 1 to 5, by a k from 1 to 7. Nothing lent is written before the room for all of the result is judged.
 fn split_checked(
     vertices: &mut TableMut<Vertex>,
     edges: &mut TableMut<Edge>,
     wires: &mut WiresMut,
+    k: u32,
 ) -> Result<Counts, Refusal>
-    requires { input_cause (lent vertices.old edges.old wires.old) ≡ 0 }
-    ensures outcome { left result vertices.new edges.new wires.new ≡ outcome_of (lent vertices.old edges.old wires.old) }
-    ensures middles { MiddlesWithin result vertices.new }
+    requires { (input_cause (lent vertices.old edges.old wires.old) ≡ 0) × (eighths_cause k ≡ 0) }
+    ensures outcome { left result vertices.new edges.new wires.new ≡ outcome_of k (lent vertices.old edges.old wires.old) }
+    ensures parameters { ParametersWithin result vertices.new }
     ensures same_vertices { SameTable vertices.old vertices.new }
     ensures same_edges { SameTable edges.old edges.new }
     ensures same_wires { SameWires wires.old wires.new }
 {
     let room = cutting::cut_room(&vertices.view(), &edges.view());
     let m = mend_closed(&edges.view(), wires, room)?;
-    add_edges::add_edges(vertices, edges);
+    add_edges::add_edges(vertices, edges, k);
     Ok(Counts {
         vertices: vertices.count + m.cuts,
         edges: edges.count + m.cuts,
@@ -79,19 +82,21 @@ fn split_checked(
     })
 }
 
-// `split_closed_edges`: every closed edge of the lent tables is cut, and every wire mended, in place.
+// `split_closed_edges`: every closed edge of the lent tables is cut, k eighths of the way along its curve, and every wire mended, in place.
 // A refusal leaves all six slices as they were.
 pub fn split_closed_edges(
     vertices: &mut TableMut<Vertex>,
     edges: &mut TableMut<Edge>,
     wires: &mut WiresMut,
+    k: u32,
 ) -> Result<Counts, Refusal>
-    ensures outcome { left result vertices.new edges.new wires.new ≡ outcome_of (lent vertices.old edges.old wires.old) }
-    ensures middles { MiddlesWithin result vertices.new }
+    ensures outcome { left result vertices.new edges.new wires.new ≡ outcome_of k (lent vertices.old edges.old wires.old) }
+    ensures parameters { ParametersWithin result vertices.new }
     ensures same_vertices { SameTable vertices.old vertices.new }
     ensures same_edges { SameTable edges.old edges.new }
     ensures same_wires { SameWires wires.old wires.new }
 {
     cutting::input_cause(&vertices.view(), &edges.view(), &wires.view())?;
-    split_checked(vertices, edges, wires)
+    cutting::parameter::eighths_cause(k)?;
+    split_checked(vertices, edges, wires, k)
 }

@@ -54,7 +54,7 @@ impl Input for CutEdge {
     fn put_together(scalars: &[u64], mut slices: Vec<Cells>) -> Result<Self, String> {
         let cuts = slices.pop().expect("seven slices").floats();
         Ok(CutEdge {
-            lent: Lent::put_together(&scalars[..3], slices)?,
+            lent: Lent::put_together(&scalars[..3], slices),
             cuts,
             edge: u32::try_from(scalars[3]).map_err(|_| "an edge number is too large")?,
             cut_count: scalars[4] as usize,

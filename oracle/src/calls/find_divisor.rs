@@ -40,7 +40,7 @@ impl Input for FindDivisor {
     }
 
     fn put_together(scalars: &[u64], slices: Vec<Cells>) -> Result<Self, String> {
-        Lent::put_together(scalars, slices).map(FindDivisor)
+        Ok(FindDivisor(Lent::put_together(scalars, slices)))
     }
 
     fn ask(&self, port: &dyn Port, slices: Vec<Slice<'_>>, out: Slice<'_>) -> i32 {

@@ -35,19 +35,33 @@ fn given(points: &[Point3]) -> Vec<records::Vertex> {
 }
 
 /// The closed-edge pass, over wires that stand in one face.
-pub struct Pass {
-    shell: Shell<records::Vertex, On<records::Vertex>, ()>,
+pub struct Pass<C> {
+    shell: Shell<records::Vertex, C, ()>,
     /// Those of all edges after the pass, which the Rust does not see.
     preparations: Vec<Preparation>,
 }
 
-impl Pass {
+impl Pass<On<records::Vertex>> {
     /// The pass over a shell that grows by so many vertices and edges.
     pub fn of(shell: &records::Shell, more: usize) -> Self {
+        Pass::over(shell, more, On::from)
+    }
+}
+
+impl Pass<Eighths<records::Vertex>> {
+    /// The same over curves that name the parameter for a k in place of their
+    /// range.
+    pub fn at(shell: &records::Shell, more: usize, k: u32) -> Self {
+        Pass::over(shell, more, |curve| Eighths::of(curve, k))
+    }
+}
+
+impl<C> Pass<C> {
+    fn over(shell: &records::Shell, more: usize, curve: impl Fn(records::Curve) -> C) -> Self {
         let preparations = preparations(&shell.edges, of_closed(&shell.edges));
         let shell = Shell {
             vertices: roomy(shell.vertices.clone(), more),
-            edges: roomy(shell.edges.iter().map(to_rust).collect(), more),
+            edges: roomy(edges_over(&shell.edges, curve), more),
             faces: deal(&shell.wires, 1),
         };
         Pass {
@@ -57,7 +71,7 @@ impl Pass {
     }
 }
 
-impl Ready for Pass {
+impl<C: Closable> Ready for Pass<C> {
     type Answer = records::Shell;
 
     fn renew(&mut self, from: &Self) {

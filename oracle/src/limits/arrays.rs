@@ -1,11 +1,12 @@
 //! Edges and uses around 64: up to that many the port has small local arrays,
 //! and large ones for more.
 
-use super::ways::{done, edge, held, refused, span};
+use super::ways::{done_at, edge, held, refused, span};
 use super::ORIGIN;
+use crate::calls::split_closed_edges::{SplitClosed, MIDDLE};
 use crate::compare::Case;
 use crate::records::{Preparation, Shell, Vertex};
-use crate::shell::{needed, Lent};
+use crate::shell::needed;
 
 /// Two numbers, and the names of a call that is done and of one without room.
 pub type Around = ([usize; 2], [&'static str; 2]);
@@ -34,13 +35,20 @@ pub(crate) use around_64;
 pub const EDGES_AND_USES: [Around; 15] = around_64!(2, " edges and ", " uses");
 
 /// All cases.
-pub fn cases() -> Vec<Case<Lent>> {
-    let both = |([edges, uses], [fits, short]): Around| {
-        let (before, after) = rings(edges, uses);
-        let input = held(&before, one_use_too_few(&after));
-        [done(fits, &before, &after), refused(short, 6, input)]
+pub fn cases() -> Vec<Case<SplitClosed>> {
+    let at = |name, k: u32, edges: usize, uses: usize| {
+        let (before, after) = rings(edges, uses, k);
+        done_at(name, k, &before, &after)
     };
-    EDGES_AND_USES.into_iter().flat_map(both).collect()
+    let both = |([edges, uses], [fits, short]): Around| {
+        let (before, after) = rings(edges, uses, MIDDLE);
+        let input = held(&before, one_use_too_few(&after));
+        [at(fits, MIDDLE, edges, uses), refused(short, 6, input)]
+    };
+    let mut cases: Vec<_> = EDGES_AND_USES.into_iter().flat_map(both).collect();
+    cases.push(at("64 edges and 64 uses, k 3", 3, 64, 64));
+    cases.push(at("65 edges and 65 uses, k 7", 7, 65, 65));
+    cases
 }
 
 /// The lengths of buffers that hold a shell, save one use of it.
@@ -73,9 +81,9 @@ pub fn mended(wires: &[Vec<u32>], cut: impl Fn(u32) -> Option<u32>) -> Vec<Vec<u
 }
 
 /// So many closed edges at one vertex, with the preparations in turn, and so
-/// many uses of them, before and after the pass.
-fn rings(edges: usize, uses: usize) -> (Shell, Shell) {
-    let all = 0..edges as u32;
+/// many uses of them, before and after the pass with a k.
+fn rings(edges: usize, uses: usize, k: u32) -> (Shell, Shell) {
+    let (all, t) = (0..edges as u32, f64::from(k));
     let curve = |number: u32| span(number, 0.0, 8.0);
     let prepared = |i: u32, from: u32, to: u32, t0: f64, t1: f64| {
         let edge = edge(from, to, span(i, t0, t1));
@@ -92,11 +100,11 @@ fn rings(edges: usize, uses: usize) -> (Shell, Shell) {
         edges: all.clone().map(|i| prepared(i, 0, 0, 0.0, 8.0)).collect(),
         wires,
     };
-    let middles = all.clone().map(|i| Vertex::Pending(curve(i), 4.0));
-    after.vertices.extend(middles);
-    let halves = all.clone().map(|i| prepared(i, 0, i + 1, 0.0, 4.0));
+    let new = all.clone().map(|i| Vertex::Pending(curve(i), t));
+    after.vertices.extend(new);
+    let halves = all.clone().map(|i| prepared(i, 0, i + 1, 0.0, t));
     after.edges.extend(halves);
-    let halves = all.map(|i| prepared(i, i + 1, 0, 4.0, 8.0));
+    let halves = all.map(|i| prepared(i, i + 1, 0, t, 8.0));
     after.edges.extend(halves);
     (before, after)
 }

@@ -1,6 +1,7 @@
 //! The ways in which a case is written down, and the sample in which one
 //! thing is spoiled at a time.
 
+use crate::calls::split_closed_edges::{SplitClosed, MIDDLE};
 use crate::compare::{Case, Expected};
 use crate::random::Random;
 use crate::records::{self, Curve, Edge, Preparation, Shell, Vertex};
@@ -42,10 +43,16 @@ pub fn held(shell: &Shell, sizes: [usize; 6]) -> Lent {
 }
 
 /// A call that is done, and the shell that must stand there afterwards.
-pub fn done(name: &'static str, before: &Shell, after: &Shell) -> Case<Lent> {
-    let input = held(before, ample(after.counts(), after.wires.len()));
+pub fn done(name: &'static str, before: &Shell, after: &Shell) -> Case<SplitClosed> {
+    done_at(name, MIDDLE, before, after)
+}
+
+/// The same with a k.
+pub fn done_at(name: &'static str, k: u32, before: &Shell, after: &Shell) -> Case<SplitClosed> {
+    let lent = held(before, ample(after.counts(), after.wires.len()));
+    let input = SplitClosed { lent, k };
     let mut expected = input.clone();
-    expected.write(after);
+    expected.lent.write(after);
     Case {
         name,
         input,
@@ -102,28 +109,34 @@ pub fn words(counts: [usize; 3]) -> Vec<u64> {
 }
 
 /// A call that is refused.
-pub fn refused(name: &'static str, number: i32, input: Lent) -> Case<Lent> {
-    Case::unchanged(name, input, number)
+pub fn refused(name: &'static str, number: i32, lent: Lent) -> Case<SplitClosed> {
+    Case::unchanged(name, SplitClosed::in_the_middle(lent), number)
 }
 
 /// The sample with one change, for which it is refused.
-pub fn spoiled(name: &'static str, number: i32, change: impl Fn(&mut Lent)) -> Case<Lent> {
-    let mut input = sample("").input;
-    change(&mut input);
-    refused(name, number, input)
+pub fn spoiled(name: &'static str, number: i32, change: impl Fn(&mut Lent)) -> Case<SplitClosed> {
+    let mut lent = sample("").input.lent;
+    change(&mut lent);
+    refused(name, number, lent)
 }
 
 /// The sample with one change of a cell that is kept as it is.
-pub fn unharmed(name: &'static str, change: impl Fn(&mut Lent)) -> Case<Lent> {
+pub fn unharmed(name: &'static str, change: impl Fn(&mut Lent)) -> Case<SplitClosed> {
     let mut case = sample(name);
-    change(&mut case.input);
-    change(&mut case.expected.after);
+    change(&mut case.input.lent);
+    change(&mut case.expected.after.lent);
     case
 }
 
 /// Three vertices, one of each kind, and three edges, one of each preparation:
 /// an open span, a closed seam and an unused open span.
-pub fn sample(name: &'static str) -> Case<Lent> {
+pub fn sample(name: &'static str) -> Case<SplitClosed> {
+    sample_at(name, MIDDLE)
+}
+
+/// The same with a k; the seam runs from 0 to 1.
+pub fn sample_at(name: &'static str, k: u32) -> Case<SplitClosed> {
+    let t = f64::from(k) / 8.0;
     let seam = |surface: u32, first: f64, t0: f64, t1: f64| Curve::Seam {
         surface,
         p: [first, first + 1.0],
@@ -146,13 +159,13 @@ pub fn sample(name: &'static str) -> Case<Lent> {
         &[open, closed(1, 1, 0.0, 1.0), unused],
         &["0+ 1+ 0-", "", "1-"],
     );
-    vertices.push(Vertex::Pending(seam(4, 0.5, 0.0, 1.0), 0.5));
+    vertices.push(Vertex::Pending(seam(4, 0.5, 0.0, 1.0), t));
     let after = shell(
         &vertices,
-        &[open, closed(1, 3, 0.0, 0.5), unused, closed(3, 1, 0.5, 1.0)],
+        &[open, closed(1, 3, 0.0, t), unused, closed(3, 1, t, 1.0)],
         &["0+ 1+ 3+ 0-", "", "3- 1-"],
     );
-    done(name, &before, &after)
+    done_at(name, k, &before, &after)
 }
 
 /// Sets a number cell of an edge of the sample.

@@ -1,8 +1,8 @@
 //! The plain closed-edge pass.
 
 use super::tables::{edge_rows, have_room};
-use super::Reference;
-use crate::port::Pass;
+use super::{eighths, Reference};
+use crate::port::{Closed, Pass};
 use crate::records::{Curve, Edge, Preparation, Vertex};
 use crate::shell::{read_edge, write_edge, write_vertex};
 use crate::shell::{EDGE_FLOATS, EDGE_NUMBERS, VERTEX_FLOATS, VERTEX_NUMBERS};
@@ -14,8 +14,6 @@ pub struct Steps {
     pub fits: fn(&Pass, [usize; 3]) -> bool,
     /// The order in which the edges are looked at.
     pub order: fn(usize) -> Vec<usize>,
-    /// Where an edge is cut.
-    pub middle: fn(f64, f64) -> f64,
     /// The two curves that a cut makes of one.
     pub halves: fn(Curve, f64) -> [Curve; 2],
     /// The new vertex, from the curve, its halves and the parameter.
@@ -33,7 +31,6 @@ impl Default for Steps {
         Steps {
             fits,
             order: |edges| (0..edges).collect(),
-            middle: |t0, t1| (t0 + t1) / 2.0,
             halves: |curve, t| {
                 [
                     curve.over(curve.range().0, t),
@@ -58,12 +55,20 @@ pub struct Mended {
 }
 
 /// Makes the pass.
-pub fn split_closed_edges(reference: &Reference, call: Pass<'_>) -> i32 {
-    let Reference { tables, pass, .. } = reference;
-    if let Some(number) = (tables.choose)(&(tables.causes)(&call.rows(), &call.wires())) {
+pub fn split_closed_edges(reference: &Reference, call: Closed<'_>) -> i32 {
+    let Closed { pass: call, k } = call;
+    let Reference {
+        tables,
+        eighths,
+        pass,
+        ..
+    } = reference;
+    let mut causes = (tables.causes)(&call.rows(), &call.wires());
+    causes.extend((!(eighths.is_known)(k)).then_some(18));
+    if let Some(number) = (tables.choose)(&causes) {
         return number;
     }
-    let mended = pass.mended(&call);
+    let mended = pass.mended(&call, eighths, k);
     let counts = [
         call.vertices + mended.vertices.len(),
         mended.edges.len(),
@@ -78,7 +83,7 @@ pub fn split_closed_edges(reference: &Reference, call: Pass<'_>) -> i32 {
 
 impl Steps {
     /// Cuts the closed edges and mends the wires.
-    fn mended(&self, call: &Pass) -> Mended {
+    fn mended(&self, call: &Pass, eighths: &eighths::Steps, k: u32) -> Mended {
         let mut edges: Vec<Edge> = edge_rows(&call.rows())
             .map(|(numbers, floats)| read_edge(numbers, floats))
             .collect();
@@ -92,7 +97,7 @@ impl Steps {
             } = edges[row];
             if front == back {
                 let (t0, t1) = curve.range();
-                let t = (self.middle)(t0, t1);
+                let t = eighths.parameter([t0, t1], k);
                 let halves = (self.halves)(curve, t);
                 let ends = (self.ends)(front, (call.vertices + vertices.len()) as u32);
                 let preparations = (self.preparations)(preparation);

@@ -8,6 +8,7 @@ use crate::calls::cut_edge::CutEdge;
 use crate::calls::find_divisor::FindDivisor;
 use crate::calls::join_wires::JoinWires;
 use crate::calls::nearest_correction::NearestEnds;
+use crate::calls::split_closed_edges::SplitClosed;
 use crate::calls::split_wires::SplitWires;
 use crate::calls::Families;
 use crate::inputs::{lend, little_sizes, shell};
@@ -60,7 +61,7 @@ pub fn put_changed_calls(words: &mut Vec<u64>) {
     put_unknown(words, |random| {
         let sizes = little_sizes(random);
         let shell = shell(random, &sizes);
-        lend(random, &shell)
+        SplitClosed::in_the_middle(lend(random, &shell))
     });
     put_unknown(words, |random| NearestEnds::made(random, true));
     put_unknown(words, |random| FindDivisor::made(random, true));

@@ -8,6 +8,7 @@ use crate::calls::find_divisor::FindDivisor;
 use crate::calls::join_wires::JoinWires;
 use crate::calls::nearest_correction::NearestEnds;
 use crate::calls::sort_wires::SortWires;
+use crate::calls::split_closed_edges::SplitClosed;
 use crate::calls::split_wires::SplitWires;
 use crate::calls::Families;
 use crate::cells::Cells;
@@ -17,7 +18,6 @@ use crate::port::{NearestCopy, Unwrap, WireEnds};
 use crate::random::Random;
 use crate::reference::search::{distance2, Found};
 use crate::reference::{near, tables, Reference};
-use crate::shell::Lent;
 use crate::{limits, model};
 
 /// Most cells in the slices of a stored call together.
@@ -119,7 +119,7 @@ const OF_SPLIT: [Quota; 11] = [
 
 /// How many calls are stored at least, by the name of the call.
 pub const QUOTAS: [(&str, &[Quota]); 10] = [
-    (Lent::NAME, &OF_PASS),
+    (SplitClosed::NAME, &OF_PASS),
     (Unwrap::NAME, &OF_NUMBERS),
     (NearestCopy::NAME, &OF_NUMBERS),
     (WireEnds::NAME, &OF_KINDS),
@@ -249,16 +249,17 @@ fn store<I: Families>(
     }
 }
 
-/// A shell of the closed-edge pass, damaged every other time.
-fn pass(random: &mut Random, index: u64) -> Lent {
+/// A shell of the closed-edge pass, damaged every other time. It is always cut
+/// in the middle, as the Rust does.
+fn pass(random: &mut Random, index: u64) -> SplitClosed {
     let sizes = inputs::little_sizes(random);
-    match index % 4 {
+    SplitClosed::in_the_middle(match index % 4 {
         0 | 1 => {
             let shell = inputs::shell(random, &sizes);
             inputs::lend(random, &shell)
         }
         _ => inputs::damaged_of(random, &sizes),
-    }
+    })
 }
 
 /// An input of any call, damaged every other time.
@@ -422,9 +423,10 @@ fn tells<I: Families>(other: Reference) -> impl Fn(&I) -> bool {
 }
 
 /// Whether a shell has edges and is none of the worked examples.
-fn is_no_worked_pass(input: &Lent) -> bool {
-    let worked = |case: &crate::compare::Case<Lent>| {
-        let known = &case.input;
+fn is_no_worked_pass(input: &SplitClosed) -> bool {
+    let input = &input.lent;
+    let worked = |case: &crate::compare::Case<SplitClosed>| {
+        let known = &case.input.lent;
         case.expected.answer == 0 && model::refused(input).is_none() && known.read() == input.read()
     };
     input.tables.edges > 0 && !limits::worked().iter().any(worked)

@@ -6,10 +6,11 @@ use crate::calls::cut_edge::CutEdge;
 use crate::calls::find_divisor::FindDivisor;
 use crate::calls::join_wires::JoinWires;
 use crate::calls::nearest_correction::NearestEnds;
+use crate::calls::split_closed_edges::SplitClosed;
 use crate::calls::split_wires::SplitWires;
 use crate::calls::Families;
 use crate::random::Random;
-use crate::shell::{Lent, Tables, EDGE_NUMBERS, PREPARATION};
+use crate::shell::{Tables, EDGE_NUMBERS, PREPARATION};
 
 /// A call that is lent edges.
 pub trait LentEdges: Families {
@@ -20,13 +21,13 @@ pub trait LentEdges: Families {
     fn uses(&self) -> Vec<u32>;
 }
 
-impl LentEdges for Lent {
+impl LentEdges for SplitClosed {
     fn tables(&mut self) -> &mut Tables {
-        &mut self.tables
+        &mut self.lent.tables
     }
 
     fn uses(&self) -> Vec<u32> {
-        self.uses.clone()
+        self.lent.uses.clone()
     }
 }
 

@@ -1,6 +1,7 @@
 //! Ports that are wrong in one place each.
 
 pub mod cut;
+pub mod eighths;
 pub mod join;
 pub mod near;
 pub mod pass;
@@ -8,7 +9,7 @@ pub mod preparations;
 pub mod search;
 pub mod split;
 
-use oracle::port::{Cut, Join, Nearest, NearestCopy, Pass, Port};
+use oracle::port::{Closed, Cut, CutParameter, Join, Nearest, NearestCopy, Port};
 use oracle::port::{Search, Sort, Split, Unwrap, WireEnds};
 use oracle::reference::Reference;
 use oracle::shell::Lent;
@@ -20,6 +21,7 @@ pub type Mutant = (&'static str, Box<dyn Port>);
 pub fn lists(call: &str) -> Vec<Vec<Mutant>> {
     match call {
         "split_closed_edges" => of_edges(pass::lists()),
+        "cut_parameter" => eighths::lists_of_parameter(),
         "get_mindiff" => vec![near::wrong_unwrapping(), near::wrong_numbers()],
         "nearest_copy" => vec![near::wrong_copies(), near::wrong_copying()],
         "boundary_type" => vec![near::wrong_kinds()],
@@ -50,7 +52,8 @@ pub fn step(name: &'static str, change: fn(&mut Reference)) -> Mutant {
 /// gives another one or the same.
 #[derive(Clone, Copy)]
 pub struct Behind {
-    pub pass: fn(i32, &Lent, &mut Pass) -> i32,
+    pub pass: fn(i32, &Lent, &mut Closed) -> i32,
+    pub parameter: fn(i32, CutParameter, &mut [u64]) -> i32,
     pub unwrap: fn(i32, Unwrap, &mut [u64]) -> i32,
     pub copy: fn(i32, NearestCopy, &mut [u64]) -> i32,
     pub kind: fn(i32, WireEnds, &mut [u32]) -> i32,
@@ -97,6 +100,7 @@ impl Kept {
 pub fn behind(name: &'static str, change: impl Fn(&mut Behind)) -> Mutant {
     let mut behind = Behind {
         pass: |answer, _, _| answer,
+        parameter: |answer, _, _| answer,
         unwrap: |answer, _, _| answer,
         copy: |answer, _, _| answer,
         kind: |answer, _, _| answer,
@@ -122,8 +126,12 @@ impl Port for Only<'_> {
         name == self.name
     }
 
-    fn split_closed_edges(&self, call: Pass<'_>) -> i32 {
+    fn split_closed_edges(&self, call: Closed<'_>) -> i32 {
         self.port.split_closed_edges(call)
+    }
+
+    fn cut_parameter(&self, call: CutParameter, out: &mut [u64]) -> i32 {
+        self.port.cut_parameter(call, out)
     }
 
     fn get_mindiff(&self, call: Unwrap, out: &mut [u64]) -> i32 {
@@ -169,10 +177,15 @@ fn right() -> Reference {
 }
 
 impl Port for Behind {
-    fn split_closed_edges(&self, mut call: Pass<'_>) -> i32 {
-        let before = call.copy();
+    fn split_closed_edges(&self, mut call: Closed<'_>) -> i32 {
+        let before = call.pass.copy();
         let answer = right().split_closed_edges(call.again());
         (self.pass)(answer, &before, &mut call)
+    }
+
+    fn cut_parameter(&self, call: CutParameter, out: &mut [u64]) -> i32 {
+        let answer = right().cut_parameter(call, out);
+        (self.parameter)(answer, call, out)
     }
 
     fn get_mindiff(&self, call: Unwrap, out: &mut [u64]) -> i32 {

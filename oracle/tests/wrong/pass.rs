@@ -1,11 +1,13 @@
 //! Wrong closed-edge passes, and wrong checks of tables and wires.
 
-use super::{behind, step, Mutant};
-use oracle::port::{Pass, Rows, Wires};
+use super::{behind, eighths, step, Mutant};
+use oracle::model::result_counts;
+use oracle::port::{Closed, Port, Rows, Wires};
 use oracle::records::Preparation::{DoubleBevel, SingleBevel, Square};
-use oracle::records::Vertex;
+use oracle::records::{Curve, Vertex};
 use oracle::reference::pass::fits;
 use oracle::reference::tables::{causes, have_room};
+use oracle::reference::Reference;
 use oracle::shell::{Lent, Tables};
 use oracle::shell::{EDGE_FLOATS, EDGE_NUMBERS, PREPARATION, VERTEX_FLOATS, VERTEX_NUMBERS};
 use std::ops::Range;
@@ -18,8 +20,15 @@ pub fn lists() -> Vec<Vec<Mutant>> {
         wrong_preparations(),
         wrong_cells_of_preparations(),
         wrong_at_65(),
-        wrong_middles(),
+        eighths::wrong_middles(),
+        eighths::wrong_eighths(),
+        eighths::wrong_keeping(),
+        eighths::wrong_bounds(),
+        eighths::wrong_ks(),
+        wrong_places(),
         wrong_refusals(),
+        wrong_order(),
+        wrong_sight_of_k(),
         wrong_bounds(),
         wrong_sight(),
         wrong_rows(),
@@ -29,7 +38,7 @@ pub fn lists() -> Vec<Vec<Mutant>> {
 }
 
 /// A pass that does something wrong after all else was right.
-fn after(name: &'static str, spoil: fn(i32, &Lent, &mut Pass) -> i32) -> Mutant {
+fn after(name: &'static str, spoil: fn(i32, &Lent, &mut Closed) -> i32) -> Mutant {
     behind(name, |after| after.pass = spoil)
 }
 
@@ -148,9 +157,9 @@ pub fn wrong_preparations() -> Vec<Mutant> {
 
 /// The rows of the new edges: only a call that is done has told how many edges
 /// there are.
-fn new_rows(answer: i32, before: &Lent, call: &Pass) -> Range<usize> {
+fn new_rows(answer: i32, before: &Lent, call: &Closed) -> Range<usize> {
     let old = before.tables.edges;
-    old..if answer == 0 { call.out[1] } else { old }
+    old..if answer == 0 { call.pass.out[1] } else { old }
 }
 
 /// Preparations that are not written, or those of other edges.
@@ -159,20 +168,20 @@ pub fn wrong_cells_of_preparations() -> Vec<Mutant> {
         after("a new preparation not written", |answer, before, call| {
             for row in new_rows(answer, before, call) {
                 let cell = row * EDGE_NUMBERS + PREPARATION;
-                call.edge_numbers[cell] = before.tables.edge_numbers[cell];
+                call.pass.edge_numbers[cell] = before.tables.edge_numbers[cell];
             }
             answer
         }),
         after("the first edge's for a new one", |answer, before, call| {
             for row in new_rows(answer, before, call) {
                 let first = before.tables.edge_numbers[PREPARATION];
-                call.edge_numbers[row * EDGE_NUMBERS + PREPARATION] = first;
+                call.pass.edge_numbers[row * EDGE_NUMBERS + PREPARATION] = first;
             }
             answer
         }),
         after("edges that are not cut square", |answer, before, call| {
             let edges = if answer == 0 { before.tables.edges } else { 0 };
-            for row in call.edge_numbers.chunks_mut(EDGE_NUMBERS).take(edges) {
+            for row in call.pass.edge_numbers.chunks_mut(EDGE_NUMBERS).take(edges) {
                 if (row[1] as usize) < before.tables.vertices {
                     row[PREPARATION] = 0;
                 }
@@ -189,21 +198,97 @@ fn wrong_at_65() -> Vec<Mutant> {
     })]
 }
 
-/// Middles that are wrong, some of them in the last bit.
-pub fn wrong_middles() -> Vec<Mutant> {
+/// Edges that are cut in two places at once.
+pub fn wrong_places() -> Vec<Mutant> {
     vec![
-        step("t0 for the middle", |r| r.pass.middle = |t0, _| t0),
-        step("t1 for the middle", |r| r.pass.middle = |_, t1| t1),
-        step("half the length added", |r| {
-            r.pass.middle = |t0, t1| t0 + (t1 - t0) / 2.0
+        step("pending in the middle, halves at k", |r| {
+            r.pass.pending = |c, _, _| Vertex::Pending(c, middle(c))
         }),
-        step("halves added", |r| {
-            r.pass.middle = |t0, t1| t0 / 2.0 + t1 / 2.0
+        step("halves in the middle, pending at k", |r| {
+            r.pass.halves = |c, _| {
+                let (t0, t1) = c.range();
+                [c.over(t0, middle(c)), c.over(middle(c), t1)]
+            }
         }),
-        step("negative zero lost", |r| {
-            r.pass.middle = |t0, t1| (t0 + t1) / 2.0 + 0.0
+        step("the second half from the middle", |r| {
+            r.pass.halves = |c, t| {
+                let (t0, t1) = c.range();
+                [c.over(t0, t), c.over(middle(c), t1)]
+            }
         }),
     ]
+}
+
+/// The middle of a curve.
+fn middle(curve: Curve) -> f64 {
+    let (t0, t1) = curve.range();
+    (t0 + t1) / 2.0
+}
+
+/// A k that may not be handed in, in a wrong order with other causes.
+pub fn wrong_order() -> Vec<Mutant> {
+    vec![
+        step("18 before 5", |r| {
+            r.tables.choose = |causes| match causes.iter().min() {
+                Some(5) if causes.contains(&18) => Some(18),
+                least => least.copied(),
+            }
+        }),
+        step("18 before 4 and 5", |r| {
+            r.tables.choose = |causes| match causes.iter().min() {
+                Some(4 | 5) if causes.contains(&18) => Some(18),
+                least => least.copied(),
+            }
+        }),
+        after("18 after 6", |answer, before, call| {
+            match answer == 18 && !have_room_in_the_middle(before, call) {
+                true => 6,
+                false => answer,
+            }
+        }),
+    ]
+}
+
+/// A k that may not be handed in and is not always looked at, or too late.
+pub fn wrong_sight_of_k() -> Vec<Mutant> {
+    vec![
+        after(
+            "18 only where an edge is closed",
+            |answer, before, call| match closed_row(&before.tables) {
+                None => in_the_middle(answer, call),
+                Some(_) => answer,
+            },
+        ),
+        after("18 only where there are uses", |answer, before, call| {
+            let mut lengths = before.lengths.iter().take(before.wires);
+            match lengths.all(|&length| length == 0) {
+                true => in_the_middle(answer, call),
+                false => answer,
+            }
+        }),
+        after("cut in the middle before 18", |answer, _, call| {
+            in_the_middle(answer, call);
+            answer
+        }),
+    ]
+}
+
+/// Whether a result has room, of a call that is refused for its k alone.
+fn have_room_in_the_middle(before: &Lent, call: &Closed) -> bool {
+    fits(&call.pass, result_counts(before))
+}
+
+/// A call that was refused for its k, made in the middle; the answer as it is of
+/// any other call.
+fn in_the_middle(answer: i32, call: &mut Closed) -> i32 {
+    let middle = Closed {
+        k: 4,
+        ..call.again()
+    };
+    match answer {
+        18 => Reference::default().split_closed_edges(middle),
+        _ => answer,
+    }
 }
 
 /// Refusals that are wrong.
@@ -362,24 +447,24 @@ pub fn wrong_writes() -> Vec<Mutant> {
     vec![
         after("writes before refusing", |answer, before, call| {
             if let (6, Some(row)) = (answer, closed_row(&before.tables)) {
-                call.edge_numbers[row * EDGE_NUMBERS + 1] = before.tables.vertices as u32;
+                call.pass.edge_numbers[row * EDGE_NUMBERS + 1] = before.tables.vertices as u32;
             }
             answer
         }),
         after("counts written on a refusal", |answer, _, call| {
             if answer != 0 {
-                call.out.fill(0);
+                call.pass.out.fill(0);
             }
             answer
         }),
         after("uses counted wrongly", |answer, before, call| {
             if answer == 0 {
-                call.out[2] = before.wires;
+                call.pass.out[2] = before.wires;
             }
             answer
         }),
         after("lengths left as they were", |answer, before, call| {
-            call.lengths.copy_from_slice(&before.lengths);
+            call.pass.lengths.copy_from_slice(&before.lengths);
             answer
         }),
     ]
@@ -391,20 +476,20 @@ pub fn wrong_ends() -> Vec<Mutant> {
     vec![
         after("uses behind the result cleared", |answer, _, call| {
             if answer == 0 {
-                call.uses[call.out[2]..].fill(0);
+                call.pass.uses[call.pass.out[2]..].fill(0);
             }
             answer
         }),
         after("uv cells of a new span cleared", |answer, before, call| {
             for row in new_rows(answer, before, call) {
-                if call.edge_numbers[row * EDGE_NUMBERS + 2] == 0 {
-                    call.edge_floats[row * EDGE_FLOATS..][..4].fill(0);
+                if call.pass.edge_numbers[row * EDGE_NUMBERS + 2] == 0 {
+                    call.pass.edge_floats[row * EDGE_FLOATS..][..4].fill(0);
                 }
             }
             answer
         }),
         after("NaN made quiet past the result", |answer, _, call| {
-            for cell in call.vertex_floats.iter_mut().filter(|_| answer == 0) {
+            for cell in call.pass.vertex_floats.iter_mut().filter(|_| answer == 0) {
                 if f64::from_bits(*cell).is_nan() {
                     *cell |= 1 << 51;
                 }
@@ -415,7 +500,7 @@ pub fn wrong_ends() -> Vec<Mutant> {
             let sum = |a: u32, b: &u32| a.wrapping_add(*b);
             let wires = before.lengths.iter().take(before.wires);
             let wrapped = wires.fold(0, sum) as usize;
-            let hidden = answer == 1 && wrapped <= call.uses.len() && wrapped <= 1024;
+            let hidden = answer == 1 && wrapped <= call.pass.uses.len() && wrapped <= 1024;
             answer * i32::from(!hidden)
         }),
         after("every call refused", |_, _, _| 1),

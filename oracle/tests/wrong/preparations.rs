@@ -173,7 +173,7 @@ pub fn wrong_sight() -> Vec<Mutant> {
             [asked.met(), vec![1; usize::from(unknown)]].concat()
         }),
         behind("four numbers are enough for an edge", |b| {
-            b.pass = |answer, _, call| four_enough(answer, call.edge_numbers, call.edges);
+            b.pass = |answer, _, call| four_enough(answer, call.pass.edge_numbers, call.pass.edges);
             b.cut = |answer, _, call| four_enough(answer, call.pass.edge_numbers, call.pass.edges);
             b.nearest = |answer, call| four_enough(answer, call.rows.edge_numbers, call.rows.edges);
             b.search = |answer, call| four_enough(answer, call.rows.edge_numbers, call.rows.edges);

@@ -2,9 +2,10 @@
 //! geometry stands here as numbers: points, uv points, the ends of the rims.
 
 use std::error::Error;
-use std::f64::consts::{PI, TAU};
+use std::f64::consts::TAU;
 
-use kaugrenna::lent::{EDGE_FLOATS, EDGE_NUMBERS, SPAN};
+use kaugrenna::lent::{EDGE_FLOATS, EDGE_NUMBERS, GIVEN, SPAN};
+use kaugrenna::lent::{VERTEX_FLOATS, VERTEX_NUMBERS};
 use kaugrenna::{connect_open_boundaries, find_non_simple_wire_divisor, nearest_copy};
 use kaugrenna::{nearest_correction, sort_wires, split_boundaries_by_divisor};
 use kaugrenna::{split_closed_edges, Divisor, OwnedTables, OwnedWires};
@@ -15,33 +16,35 @@ pub const TURN: f64 = TAU;
 /// Its height.
 pub const HEIGHT: f64 = 4.0;
 
-/// The face of the pipe: its tables and its wires.
+/// The face of the pipe: its tables, the uv points of its vertices, its wires.
 pub struct Face {
     pub tables: OwnedTables,
+    pub points: Vec<[f64; 2]>,
     pub wires: OwnedWires,
 }
 
 type Outcome<T> = Result<T, Box<dyn Error>>;
 
-/// The uv point of a vertex: 0 and 1 at the start of the turn, 2 and 3 halfway;
-/// the even ones on the lower rim.
-fn uv(vertex: u32) -> [f64; 2] {
-    let u = if vertex < 2 { 0.0 } else { PI };
-    let v = if vertex % 2 == 0 { 0.0 } else { HEIGHT };
-    [u, v]
+/// A point on a rim, which is a curve: its parameter is u, and curve 0 is the
+/// lower rim.
+pub fn on_rim(curve: u32, t: f64) -> [f64; 2] {
+    [t, if curve == 0 { 0.0 } else { HEIGHT }]
 }
 
-/// As many given vertices, with their points; rows past them are room.
-fn give_vertices(tables: &mut OwnedTables, count: usize) {
-    tables.vertices = count;
-    tables.vertex_numbers = vec![0; 12];
-    tables.vertex_floats = (0..4)
-        .flat_map(|vertex| {
-            let [u, v] = uv(vertex);
-            let x = if u == 0.0 { 1.0 } else { -1.0 };
-            [x, 0.0, v, 0.0, 0.0, 0.0, 0.0]
-        })
-        .collect();
+/// The uv point of a pending vertex, evaluated.
+fn evaluated(tables: &OwnedTables, vertex: usize) -> [f64; 2] {
+    let numbers = &tables.vertex_numbers[vertex * VERTEX_NUMBERS..];
+    let floats = &tables.vertex_floats[vertex * VERTEX_FLOATS..];
+    on_rim(numbers[2], floats[6])
+}
+
+/// Gives the vertices with these uv points; rows past them are room.
+fn give_vertices(tables: &mut OwnedTables, points: &[[f64; 2]]) {
+    tables.vertices = points.len();
+    tables.vertex_numbers = vec![GIVEN; 4 * VERTEX_NUMBERS];
+    let given = |[u, v]: &[f64; 2]| [u.cos(), u.sin(), *v, 0.0, 0.0, 0.0, 0.0];
+    tables.vertex_floats = points.iter().flat_map(given).collect();
+    tables.vertex_floats.resize(4 * VERTEX_FLOATS, 0.0);
 }
 
 /// The numbers of a rim: the closed edge at the vertex of its number, a span of
@@ -55,7 +58,8 @@ fn rim(number: u32) -> [u32; EDGE_NUMBERS] {
 /// and 1-, and room for their second halves and for two seams.
 fn burner_pipe() -> Face {
     let mut tables = OwnedTables::default();
-    give_vertices(&mut tables, 2);
+    let points = [0, 1].map(|curve| on_rim(curve, 0.0)).to_vec();
+    give_vertices(&mut tables, &points);
     tables.edges = 2;
     tables.edge_numbers = [0, 1].map(rim).concat();
     tables.edge_numbers.resize(6 * EDGE_NUMBERS, 0);
@@ -71,14 +75,21 @@ fn burner_pipe() -> Face {
         lengths,
         count: 2,
     };
-    Face { tables, wires }
+    Face {
+        tables,
+        points,
+        wires,
+    }
 }
 
-/// The rims cut, and the new vertices evaluated.
-fn cut_rims(face: &mut Face) -> Outcome<()> {
-    let counts = split_closed_edges(face.tables.lend_mut(), face.wires.lend_mut())?;
+/// The rims cut, k eighths of the way round, and the new vertices evaluated.
+fn cut_rims(face: &mut Face, k: u32) -> Outcome<()> {
+    let counts = split_closed_edges(face.tables.lend_mut(), face.wires.lend_mut(), k)?;
     face.tables.edges = counts.edges;
-    give_vertices(&mut face.tables, counts.vertices);
+    let new = face.tables.vertices..counts.vertices;
+    let evaluated = new.map(|vertex| evaluated(&face.tables, vertex));
+    face.points.extend(evaluated);
+    give_vertices(&mut face.tables, &face.points);
     Ok(())
 }
 
@@ -97,7 +108,7 @@ fn rims(face: &Face) -> Outcome<[Vec<u32>; 2]> {
 /// The face split along the seam between two vertices, where as many of its
 /// wires as are asked for, from the first on, are rebuilt.
 fn split(face: &mut Face, ends: [u32; 2], rebuilt: usize) -> Outcome<()> {
-    let [p, q] = ends.map(uv);
+    let [p, q] = ends.map(|vertex| face.points[vertex as usize]);
     let near = nearest_copy(p, q, [Some(TURN), None])?;
     let divisor = Divisor {
         vertices: &ends,
@@ -125,10 +136,10 @@ fn split(face: &mut Face, ends: [u32; 2], rebuilt: usize) -> Outcome<()> {
     Ok(())
 }
 
-/// The pipe with its contours.
-pub fn healed() -> Outcome<Face> {
+/// The pipe with its contours, its rims cut k eighths of the way round.
+pub fn healed(k: u32) -> Outcome<Face> {
     let mut face = burner_pipe();
-    cut_rims(&mut face)?;
+    cut_rims(&mut face, k)?;
     let rims = rims(&face)?;
     let [first, second] = rims.each_ref().map(|rim| Stretch::from(&rim[..]));
     let ends = nearest_correction(face.tables.lend(), first, second, 0)?;

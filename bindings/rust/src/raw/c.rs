@@ -19,10 +19,14 @@ extern "C" {
         vertices: usize,
         edges: usize,
         wires: usize,
+        k: u32,
         vertices_out: *mut usize,
         edges_out: *mut usize,
         uses_out: *mut usize,
     ) -> i32;
+
+    /// The parameter at which the pass cuts a curve from t0 to t1.
+    pub fn kaugrenna_cut_parameter(t0: f64, t1: f64, k: u32, t_out: *mut f64) -> i32;
 
     /// Cuts one edge and mends every wire.
     pub fn kaugrenna_cut_edge_by_intersections(

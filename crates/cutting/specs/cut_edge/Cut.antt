@@ -1,33 +1,18 @@
--- One closed edge cut at the middle of its curve. Definitions only.
-use Rattle.std.specs.Prelude.{◌≡◌, ℕ, T, Float}
-use Rattle.std.specs.Float.Ieee.{le}
-use Rattle.floats.specs.Exact.{sized_of, midpoint_of}
+-- An edge cut in two at a parameter. Definitions only.
+use Rattle.std.specs.Prelude.{ℕ, Float}
 use Rattle.compress.specs.declared.Curve.{Curve}
 use Rattle.compress.specs.declared.Curve.TheVariants.{Span, Seam}
 use Rattle.compress.specs.declared.Edge.{Edge}
 use Rattle.compress.specs.declared.Vertex.{Vertex}
 use Rattle.compress.specs.declared.Vertex.TheVariants.{Pending}
-use Rattle.compress.specs.Records.{first_of, last_of}
-use Rattle.checks.specs.Causes.{range_cause, parameter_cause}
 use Rattle.cutting.specs.declared.cut_edge.Halves.{Halves}
-
--- "An edge with equal ends is cut at (t0 + t1) / 2."
-unfoldable pub middle_of : Curve → Float
-middle_of c = midpoint_of (first_of c) (last_of c)
-
--- "Proved: the midpoint never leaves the range from t0 to t1. It may equal an end." So on a curve without a cause it has none: no "pending parameter
--- outside its curve's t0 to t1".
-pub record Middle (c : Curve) (r : Float) : Type 0 where
-  pub exact : r ≡ middle_of c
-  pub accepted : range_cause (first_of c) (last_of c) ≡ 0 → parameter_cause (first_of c) (last_of c) r ≡ 0
-  pub between : T (sized_of (first_of c)) → T (sized_of (last_of c)) → T (le (first_of c) (last_of c)) → T (le (first_of c) r) × T (le r (last_of c))
 
 -- a curve with another range
 abbrev pub with_range : Curve → Float → Float → Curve
 with_range (Span n a b) t u = Span n t u
 with_range (Seam n p q a b) t u = Seam n p q t u
 
--- "The old edge keeps t0 to the middle; the new one runs from the middle to t1."
+-- "The old edge keeps t0 to the middle; the new one runs from the middle to t1", here at any parameter.
 abbrev pub up_to : Curve → Float → Curve
 up_to (Span n a b) t = Span n a t
 up_to (Seam n p q a b) t = Seam n p q a t
@@ -45,6 +30,6 @@ halves_of e t n =
       new = record { front = n; back = e.back; curve = from_on e.curve t; preparation = e.preparation };
     }
 
--- the new vertex: "pending: the curve as it was before the cut, with the parameter"
-unfoldable pub pending_of : Edge → Vertex
-pending_of e = Pending e.curve (middle_of e.curve)
+-- the new vertex: "pending: the curve as it was before the cut, with the parameter", which `at` tells of a curve
+unfoldable pub pending_of : (Curve → Float) → Edge → Vertex
+pending_of at e = Pending e.curve (at e.curve)

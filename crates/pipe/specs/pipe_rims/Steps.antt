@@ -1,18 +1,18 @@
 -- What the closed-edge pass leaves of a shell. Definitions only.
-use Rattle.std.specs.Prelude.{◌≡◌}
+use Rattle.std.specs.Prelude.{◌≡◌, ℕ}
 use Rattle.compress.specs.declared.Counts.{Counts}
 use Rattle.compress.specs.Said.{result}
 use Rattle.cutting.specs.Contract.{Outcome, lent_of}
 use Rattle.pipe_shell.specs.declared.Shell.{Shell}
 use Rattle.split_closed_edges.specs.Contract.{outcome_of}
 
--- what the call leaves, of a shell that it is lent
-abbrev pub pass_of : Shell → Outcome
-pass_of s =
+-- what the call leaves, of a shell that it is lent, by k
+abbrev pub pass_of : ℕ → Shell → Outcome
+pass_of k s =
     let v = s.vertices in
     let e = s.edges in
     let w = s.wires in
-    outcome_of (lent_of v.numbers v.floats e.numbers e.floats w.uses w.lengths v.count e.count w.count)
+    outcome_of k (lent_of v.numbers v.floats e.numbers e.floats w.uses w.lengths v.count e.count w.count)
 
 -- the call has a result, and the shell has the edges and the wires that it leaves, and as many vertices
 pub record Passed (o : Outcome) (left : Shell) : Type 0 where

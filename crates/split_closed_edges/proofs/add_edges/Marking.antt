@@ -72,7 +72,7 @@ module _ (count : ℕ) (ns : List ℕ) (added₀ : List (Option ℕ)) (room : co
             let f = rw (first fs, added_first m (edge_at ns fs i) (rows (edge_at ns fs) (i + 1) k) b (q fs)) at (M.front fs) in
             rw (t, em, append_snoc, ex) f;
         m_is = λ fs.
-            rw em (count_step b m _ _ _ (count_first m (edge_at ns fs i) (rows (edge_at ns fs) (i + 1) k) b (q fs)) (rw (first fs) at (M.m_is fs)));
+            rw em (count_step b m _ _ _ (count_first (edge_at ns fs i) (rows (edge_at ns fs) (i + 1) k) b (q fs)) (rw (first fs) at (M.m_is fs)));
       }
 
   pub marking_done : (added : List (Option ℕ)) (i m : ℕ) → Marking count ns added₀ added i m → count ≤ i

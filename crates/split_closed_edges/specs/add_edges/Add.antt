@@ -1,10 +1,11 @@
 -- Document 001's `add_edges`, on values. Definitions only.
--- In each, n is the next free vertex number and m the next free edge number.
-use Rattle.std.specs.Prelude.{Bool, true, false, Option, Some, None, List, [], ◌∷◌, ◌++◌, ℕ, ◌+◌}
+-- In each, n is the next free vertex number and m the next free edge number, and `at` tells the parameter at which a curve is cut.
+use Rattle.std.specs.Prelude.{Bool, true, false, Option, Some, None, List, [], ◌∷◌, ◌++◌, ℕ, ◌+◌, Float}
+use Rattle.compress.specs.declared.Curve.{Curve}
 use Rattle.compress.specs.declared.Edge.{Edge}
 use Rattle.compress.specs.declared.Vertex.{Vertex}
 use Rattle.compress.specs.Records.{closed, pick}
-use Rattle.cutting.specs.cut_edge.Cut.{middle_of, halves_of, pending_of}
+use Rattle.cutting.specs.cut_edge.Cut.{halves_of, pending_of}
 
 -- "The new vertex is the next free number n."
 abbrev pub next : Bool → ℕ → ℕ
@@ -12,31 +13,31 @@ next true n = n + 1
 next false n = n
 
 -- "Edge (a, a) becomes (a, n)": an edge, by whether it is closed
-abbrev pub kept_edge : Bool → ℕ → Edge → Edge
-kept_edge true n e = (halves_of e (middle_of e.curve) n).old
-kept_edge false n e = e
+abbrev pub kept_edge : (Curve → Float) → Bool → ℕ → Edge → Edge
+kept_edge at true n e = (halves_of e (at e.curve) n).old
+kept_edge at false n e = e
 
 -- "(n, a) is appended."
-abbrev pub new_edge : Bool → ℕ → Edge → List Edge
-new_edge true n e = (halves_of e (middle_of e.curve) n).new ∷ []
-new_edge false n e = []
+abbrev pub new_edge : (Curve → Float) → Bool → ℕ → Edge → List Edge
+new_edge at true n e = (halves_of e (at e.curve) n).new ∷ []
+new_edge at false n e = []
 
-abbrev pub new_vertex : Bool → Edge → List Vertex
-new_vertex true e = pending_of e ∷ []
-new_vertex false e = []
+abbrev pub new_vertex : (Curve → Float) → Bool → Edge → List Vertex
+new_vertex at true e = pending_of at e ∷ []
+new_vertex at false e = []
 
 -- "Edges are taken in rising number; appended ones are not looked at again."
-unfoldable pub kept_edges : ℕ → List Edge → List Edge
-kept_edges n [] = []
-kept_edges n (e ∷ es) = kept_edge (closed e) n e ∷ kept_edges (next (closed e) n) es
+unfoldable pub kept_edges : (Curve → Float) → ℕ → List Edge → List Edge
+kept_edges at n [] = []
+kept_edges at n (e ∷ es) = kept_edge at (closed e) n e ∷ kept_edges at (next (closed e) n) es
 
-unfoldable pub new_edges : ℕ → List Edge → List Edge
-new_edges n [] = []
-new_edges n (e ∷ es) = new_edge (closed e) n e ++ new_edges (next (closed e) n) es
+unfoldable pub new_edges : (Curve → Float) → ℕ → List Edge → List Edge
+new_edges at n [] = []
+new_edges at n (e ∷ es) = new_edge at (closed e) n e ++ new_edges at (next (closed e) n) es
 
-unfoldable pub new_vertices : List Edge → List Vertex
-new_vertices [] = []
-new_vertices (e ∷ es) = new_vertex (closed e) e ++ new_vertices es
+unfoldable pub new_vertices : (Curve → Float) → List Edge → List Vertex
+new_vertices at [] = []
+new_vertices at (e ∷ es) = new_vertex at (closed e) e ++ new_vertices at es
 
 -- `added`: for each edge number that of the edge cut off it, and nothing where it was not cut
 unfoldable pub added_to : ℕ → List Edge → List (Option ℕ)

@@ -4,6 +4,7 @@
 mod arrays;
 
 use super::{CutEdge, CUT};
+use crate::calls::split_closed_edges::SplitClosed;
 use crate::compare::{Case, Expected};
 use crate::limits::ways::{ample, cells, edge, held, k1_cells, sample, span};
 use crate::limits::ways::{edge_float, edge_number, vertex_number};
@@ -82,14 +83,14 @@ fn cut_at_3(name: &'static str, ends: (u32, u32), wires: &[&str], after: &[&str]
 
 /// The closed-edge pass's sample, whose edge 0 is cut at 0.25.
 fn spoilt(change: impl Fn(&mut CutEdge)) -> CutEdge {
-    let mut input = CutEdge::over(sample("").input, 0, &[[0.25, 7.0, 8.0, 9.0]]);
+    let mut input = CutEdge::over(sample("").input.lent, 0, &[[0.25, 7.0, 8.0, 9.0]]);
     change(&mut input);
     input
 }
 
 /// That sample after its cut.
 fn sample_after() -> Shell {
-    let mut after = sample("").input.read();
+    let mut after = sample("").input.lent.read();
     after.vertices.push(Vertex::Given(7.0, 8.0, 9.0));
     let piece = |front: u32, back: u32, t0: f64, t1: f64| {
         edge(front, back, span(9, t0, t1)).prepared(Preparation::SingleBevel)
@@ -144,7 +145,7 @@ fn results() -> Vec<Case<CutEdge>> {
 
 /// The sample's closed seam is cut in place of its span.
 fn the_seam() -> Case<CutEdge> {
-    let before = sample("").input.read();
+    let before = sample("").input.lent.read();
     let curve = before.edges[1].curve;
     let mut after = before.clone();
     after.vertices.push(Vertex::Given(-0.0, 1.0e15, -1.0e15));
@@ -275,7 +276,7 @@ fn nothing_to_cut() -> Vec<Case<CutEdge>> {
             expected,
         }
     };
-    let before = sample("").input.read();
+    let before = sample("").input.lent.read();
     let nan = [f64::NAN; CUT];
     let nothing_lent = Lent::poisoned([0; 6], &mut Random::new(0, 0, 0));
     vec![
@@ -538,11 +539,11 @@ fn lowest() -> Vec<Case<CutEdge>> {
 
 /// What the closed-edge pass refuses under 1 to 5, a cut is refused as well.
 fn of_the_pass() -> Vec<Case<CutEdge>> {
-    let refused = |case: &Case<Lent>| (1..=5).contains(&case.expected.answer);
-    let with_cut = |case: Case<Lent>| {
-        let input = CutEdge::over(case.input, 0, &[[0.5, 1.0, 2.0, 3.0]]);
+    let refused = |case: &Case<SplitClosed>| (1..=5).contains(&case.expected.answer);
+    let with_cut = |case: Case<SplitClosed>| {
+        let input = CutEdge::over(case.input.lent, 0, &[[0.5, 1.0, 2.0, 3.0]]);
         Case::unchanged(case.name, input, case.expected.answer)
     };
-    let cases = limits::cases().into_iter();
+    let cases = limits::of_shells().into_iter();
     cases.filter(refused).map(with_cut).collect()
 }

@@ -1,7 +1,6 @@
 use Rattle.std.proofs.Common.{arith}
 use mathlib.Core.Bool.{false≢true}
 use mathlib.Core.Path.{sym}
-use Rattle.cutting.proofs.Within.{pending_accepted}
 use Rattle.split_closed_edges.proofs.add_edges.Edges.{closed_yes, closed_no}
 use Rattle.split_closed_edges.proofs.add_edges.add_edge.Goals as goal
 
@@ -36,6 +35,7 @@ returns-clause-value c =
     sym (closed_yes _ _ (rw (v.numbers_value, v.floats_value) at c.at-e.ensures) c.if-e.false)
 
 pub returns-clause-accepted : goal.returns-clause-accepted
-returns-clause-accepted c p =
+returns-clause-accepted c p q =
     let v = c.view.ensures in
-    rw (rw (v.numbers_value, v.floats_value) at c.at-e.ensures) at (pending_accepted c.at-e.result c.middle.result c.middle.ensures)
+    let e = rw (v.numbers_value, v.floats_value) at c.at-e.ensures in
+    rw (← e, ← c.pending.ensures.exact) (c.pending.ensures.accepted (rw e q))

@@ -8,12 +8,12 @@ use Rattle.compress.specs.Said.{said_of}
 use Rattle.compress.specs.Shell.{Slices}
 use Rattle.compress.proofs.Refused.{refused_never}
 use Rattle.split_closed_edges.specs.add_edges.Steps.{VerticesPass}
-use Rattle.healing.specs.Host.{read_off, Told, HostMiddles}
+use Rattle.healing.specs.Host.{read_off, Told, HostVerticesPass}
 
 -- n, vn, vf and d: the counts told, the vertices and the code, as the steps of the export name them
-pub host_middles : (answer : Result Counts Refusal) {before n : Counts} {d : ℤ} {vn : List ℕ} {vf : List Float} → Told (said_of (λ n. n) answer) before n d
+pub host_parameters : (answer : Result Counts Refusal) {before n : Counts} {d : ℤ} {vn : List ℕ} {vf : List Float} → Told (said_of (λ n. n) answer) before n d
     → IfOk answer (λ c. VerticesPass vn vf c.vertices)
-    → {after : Counts} {slices : Slices} {r : ℤ} → after ≡ n → slices.vn ≡ vn → slices.vf ≡ vf → r ≡ d → HostMiddles after slices r
-host_middles (Ok c) t h p q s e = record { within = λ z. rw (p, q, s, t.places) h }
-host_middles (Err x) {before} {n} t h p q s e =
+    → {after : Counts} {slices : Slices} {r : ℤ} → after ≡ n → slices.vn ≡ vn → slices.vf ≡ vf → r ≡ d → HostVerticesPass after slices r
+host_parameters (Ok c) t h p q s e = record { within = λ z. rw (p, q, s, t.places) h }
+host_parameters (Err x) {before} {n} t h p q s e =
     record { within = λ z. absurd (refused_never (refusal_number x) (t.read ∙ ap (λ (d : ℤ). read_off d n) (sym e ∙ z))) }

@@ -1,0 +1,2 @@
+-- What a host would supply for the pipe.
+pub mod Projected
