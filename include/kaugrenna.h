@@ -1,7 +1,7 @@
 /*
  * Kaugrenna: cut edges and mended wires for burner pipe shells, verified.
  *
- * The eleven calls of libhealing.a, which `rt lib` in crates/healing writes to
+ * The twelve calls of libhealing.a, which `rt lib` in crates/healing writes to
  * crates/healing/out. Each has its contract, which is proved, in
  * crates/healing/src; document 01 is the specification. The archive asks for
  * memcpy, memmove and memset, and for nothing else. This header is C from C89
@@ -21,8 +21,9 @@
  * may overlap each other. A call keeps no pointer, allocates nothing, and may
  * be made from several threads at once on slices of their own.
  *
- * Stack, as measured on x86-64: at most 41 KiB in the pass and in one cut, 39
- * in the split, 21 in the search, 9 in the join, less than 1 in the others.
+ * Stack, as measured on x86-64: at most 41 KiB in the pass, 39 in the split, 21
+ * in the search, 9 in the join, 5 where one edge is cut, less than 1 in the
+ * others.
  * Where a dynamic linker looks up memcpy and the like only when they are
  * first needed, that call took some 3 KiB more.
  *
@@ -45,7 +46,8 @@
  *
  * Since 0.2.0 an edge has 5 numbers; in 0.1.0 it had 4, without the
  * preparation. Since 0.3.0 the closed-edge pass takes k; before, it cut at
- * the middle. Header and archive go together.
+ * the middle. Since 0.4.0 an edge can be cut at several points, by a call of
+ * its own. Header and archive go together.
  *
  * Cells that a record of its kind does not have are no input and keep what
  * they held, and so do entries past a count or past a result.
@@ -68,8 +70,8 @@
 #include <stdint.h>
 
 /* The version of this header: 10,000, 100 and 1 for each of its numbers. */
-#define KAUGRENNA_VERSION 300
-#define KAUGRENNA_VERSION_TEXT "0.3.0"
+#define KAUGRENNA_VERSION 400
+#define KAUGRENNA_VERSION_TEXT "0.4.0"
 
 /* A result, and "none": no result, and nothing is wrong with the input. */
 #define KAUGRENNA_DONE 0
@@ -86,11 +88,12 @@
 #define KAUGRENNA_FLOATS_PER_WIRE 5
 
 /* The most vertices of a call, and the most edges; the most wires into it;
-   the most uses in all of its wires, and out of it; the largest size of a
-   float that is lent. */
+   the most uses in all of its wires, and out of it; the most cuts of an edge
+   in it; the largest size of a float that is lent. */
 #define KAUGRENNA_MAX_ROWS 4096
 #define KAUGRENNA_MAX_WIRES 64
 #define KAUGRENNA_MAX_USES 1024
+#define KAUGRENNA_MAX_CUTS 64
 #define KAUGRENNA_MAX_SIZE 1.0e15
 
 /* The number of eighths to the middle of a curve. */
@@ -124,7 +127,8 @@ enum kaugrenna_preparation {
  * The refusals; `kaugrenna_text` has a sentence for each. Every input is
  * checked, used or not, and the lowest number wins; 8, 11, 12 and 13 come
  * after the others, as first reached. Outside a split 6 comes last of all: in
- * the closed-edge pass 1 to 5, 18 and then 6.
+ * the closed-edge pass 1 to 5, 18 and then 6; in cuts at several points 1 to
+ * 5, 16, 17 and then 6.
  */
 enum kaugrenna_refusal {
     KAUGRENNA_MALFORMED = 1,
@@ -142,6 +146,8 @@ enum kaugrenna_refusal {
     KAUGRENNA_EMPTY_LIST = 13,
     KAUGRENNA_SEVERAL_CUTS = 14,
     KAUGRENNA_EMPTY_OPEN_WIRE = 15,
+    KAUGRENNA_TOO_MANY_CUTS = 16,
+    KAUGRENNA_NOT_RISING = 17,
     KAUGRENNA_EIGHTHS_OUT_OF_RANGE = 18
 };
 
@@ -201,6 +207,10 @@ KAUGRENNA_INLINE const char *kaugrenna_text(int32_t code) {
         return "an edge is to be cut at two or more places";
     case KAUGRENNA_EMPTY_OPEN_WIRE:
         return "an open wire handed to a join is empty";
+    case KAUGRENNA_TOO_MANY_CUTS:
+        return "an edge is to be cut at more than 64 places";
+    case KAUGRENNA_NOT_RISING:
+        return "the parameters of the cuts do not rise strictly";
     case KAUGRENNA_EIGHTHS_OUT_OF_RANGE:
         return "the number of eighths is outside 1 to 7";
     default:
@@ -268,15 +278,66 @@ int32_t kaugrenna_cut_parameter(
 /*
  * Edge number `edge` is cut by the cuts in `cuts`, four floats each:
  * parameter, x, y, z. No cut changes nothing, one cuts the edge and mends
- * every wire, in place, and two or more are refused (14). Both pieces have the
- * preparation of the edge that was cut. 0: done, and the three places hold the
- * counts of vertices, edges and uses. Else the number of the refusal, and
- * nothing lent is changed.
+ * every wire, in place, and two or more are refused (14), which
+ * `kaugrenna_cut_edge_at_points` takes. Both pieces have the preparation of
+ * the edge that was cut. 0: done, and the three places hold the counts of
+ * vertices, edges and uses. Else the number of the refusal, and nothing lent
+ * is changed.
  *
  * Room: for one cut a row in each table, and a place in `uses` for every use
  * of the edge; for no cut none.
  */
 int32_t kaugrenna_cut_edge_by_intersections(
+    uint32_t *vertex_numbers,
+    size_t vertex_numbers_len,
+    double *vertex_floats,
+    size_t vertex_floats_len,
+    uint32_t *edge_numbers,
+    size_t edge_numbers_len,
+    double *edge_floats,
+    size_t edge_floats_len,
+    uint32_t *uses,
+    size_t uses_len,
+    uint32_t *lengths,
+    size_t lengths_len,
+    const double *cuts,
+    size_t cuts_len,
+    size_t vertices,
+    size_t edges,
+    size_t wires,
+    uint32_t edge,
+    size_t cut_count,
+    size_t *vertices_out,
+    size_t *edges_out,
+    size_t *uses_out);
+
+/*
+ * Edge number `edge`, from vertex a to vertex b, is cut by the cuts in `cuts`,
+ * at most 64 of them in strictly rising parameter, four floats each:
+ * parameter, x, y, z. It becomes a chain of pieces from a to b, and every wire
+ * is mended, in place. With n vertices, m edges and k cuts lent the piece from
+ * a to n keeps the number of the edge, the others are the new edges m, from n
+ * to n + 1, and so on, the last m + k - 1, from n + k - 1 to b. So the new
+ * edges and the new vertices, which are given by the points of the cuts, are
+ * numbered along the curve. The ranges of the pieces join at the cuts, from t0
+ * to t1, and each piece has the preparation of the edge that was cut. A
+ * forward use of the edge becomes the chain i+ m+ .. (m+k-1)+, where i is
+ * `edge`, and a reversed one the chain backwards, (m+k-1)- .. m- i-. No cut
+ * changes nothing. With no cut and with one the answers are those of
+ * `kaugrenna_cut_edge_by_intersections`. 0: done, and the three places hold
+ * the counts of vertices, edges and uses. Else the number of the refusal, and
+ * nothing lent is changed.
+ *
+ * Refused: 1 to 5 over all that is lent, every cut too, also past 64, and the
+ * edge's number also where there is no cut; 1 where four floats for each cut
+ * are not lent. Then more than 64 cuts (16), then a parameter that is not
+ * above the one before it (17), and 6 last. The first parameter may be t0 and
+ * the last t1; 0.0 is not above -0.0.
+ *
+ * Room: for k cuts k rows in each table, and k places in `uses` for every use
+ * of the edge, with at most 1,024 uses in all; for no cut none.
+ */
+int32_t kaugrenna_cut_edge_at_points(
     uint32_t *vertex_numbers,
     size_t vertex_numbers_len,
     double *vertex_floats,

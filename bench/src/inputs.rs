@@ -10,7 +10,7 @@ const FULL: usize = 4096;
 /// How large an input is.
 #[derive(Clone, Copy, Debug, PartialEq, Eq)]
 pub struct Size {
-    /// Uses in all wires of the call together; in the pass and the cut, whose
+    /// Uses in all wires of the call together; in the pass and the cuts, whose
     /// wires grow, those of the result.
     pub uses: usize,
     /// Whether the tables are filled up to their bounds.
@@ -111,6 +111,21 @@ pub fn cut(size: Size) -> Shell {
     uses.insert(edges / 2, 1);
     let wires = dealt(&uses, size.uses / 16);
     shell(&ring(0, edges), wires, size.full, 1)
+}
+
+/// Shells for so many cuts, and the cuts: edge 0 is used as often as fits, in
+/// either direction by turns, and every other edge once. How many uses more the
+/// result has comes last.
+pub fn cuts(size: Size, count: usize) -> (Shell, Vec<[f64; 4]>, usize) {
+    let used = size.uses / (count + 1);
+    let others = size.uses % (count + 1);
+    let mut uses: Vec<u32> = (0..used).map(|place| place as u32 % 2).collect();
+    uses.extend(forward(1, others));
+    let wires = dealt(&uses, size.uses / 16);
+    let shell = shell(&ring(0, 1 + others), wires, size.full, count);
+    let (t0, _) = shell.edges[0].curve.range();
+    let cut = |row: usize| [t0 + (row + 1) as f64 / 128.0, row as f64, 2.0, 3.0];
+    (shell, (0..count).map(cut).collect(), used * count)
 }
 
 /// Shells for nearest ends: a ring in two halves, the stretches.

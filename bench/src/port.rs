@@ -157,6 +157,49 @@ impl Ready for OneCut {
     }
 }
 
+/// Several cuts of edge 0.
+pub struct SeveralCuts {
+    slices: Slices,
+    cuts: Vec<f64>,
+    count: usize,
+    said: Result<kaugrenna::Counts, Refusal>,
+}
+
+impl SeveralCuts {
+    /// With room for so many uses more.
+    pub fn of(shell: &Shell, cuts: &[[f64; 4]], uses: usize) -> Self {
+        SeveralCuts {
+            slices: Slices::of(shell, cuts.len(), uses),
+            cuts: cuts.concat(),
+            count: cuts.len(),
+            said: Err(Refusal::Malformed),
+        }
+    }
+}
+
+impl Ready for SeveralCuts {
+    type Answer = Shell;
+
+    fn renew(&mut self, from: &Self) {
+        self.slices.renew(&from.slices);
+    }
+
+    fn run(&mut self) {
+        let cuts = Cuts {
+            floats: &self.cuts,
+            count: self.count,
+        };
+        let (tables, wires) = (self.slices.tables.lend_mut(), self.slices.wires.lend_mut());
+        self.said = kaugrenna::cut_edge_at_points(tables, wires, cuts, 0);
+    }
+
+    fn answer(&self) -> Shell {
+        let counts = self.said.expect(ACCEPTED);
+        let wires = &self.slices.wires;
+        self.slices.read(counts.vertices, counts.edges, wires)
+    }
+}
+
 /// Unwrapping, with a period.
 pub struct Unwrap {
     pub u: f64,

@@ -57,6 +57,7 @@ pub fn visit_all(visitor: &mut impl Visitor) {
         for uses in [8, 64, 1024] {
             let size = Size { uses, full };
             visit_cuts(size, visitor);
+            visit_several_cuts(size, visitor);
             visit_lookups(size, visitor);
             visit_rebuilt(size, visitor);
             visit_checks(size, visitor);
@@ -113,6 +114,24 @@ fn visit_cuts(size: Size, visitor: &mut impl Visitor) {
         |_| port::OneCut::of(&shell, 0, cut),
         |_| rust::OneCut::of(&shell, 0, cut),
     );
+}
+
+/// Several cuts, as many as have room in the result. The Rust's own call comes
+/// apart: its one cut is made over and over.
+fn visit_several_cuts(size: Size, visitor: &mut impl Visitor) {
+    let rows = [
+        ("cut_edge_at_points, 1 cut", 1),
+        ("cut_edge_at_points, 3 cuts", 3),
+        ("cut_edge_at_points, 64 cuts", 64),
+    ];
+    for (call, count) in rows.into_iter().filter(|&(_, count)| count < size.uses) {
+        let (shell, cuts, uses) = inputs::cuts(size, count);
+        visitor.row(
+            over_tables(call, size),
+            |_| port::SeveralCuts::of(&shell, &cuts, uses),
+            |_| rust::SeveralCuts::of(&shell, 0, &cuts),
+        );
+    }
 }
 
 /// Nearest ends and the search.

@@ -5,9 +5,9 @@ use std::env;
 use std::fs;
 use std::path::{Path, PathBuf};
 
-/// A call that archives have from 0.3.0 on. An older one would read the
-/// arguments of the pass wrongly: it has no k.
-const NEWEST: &[u8] = b"kaugrenna_cut_parameter";
+/// A call that archives have from 0.4.0 on. An older one lacks it, and one from
+/// before 0.3.0 would read the arguments of the pass wrongly: it has no k.
+const NEWEST: &[u8] = b"kaugrenna_cut_edge_at_points";
 
 /// Tells what is wrong with the archive, and ends.
 fn refuse(archive: &Path, what: &str) -> ! {

@@ -10,6 +10,7 @@ pub mod join_wires;
 pub mod nearest_copy;
 pub mod nearest_correction;
 pub mod numbers;
+pub mod several_cuts;
 pub mod sort_wires;
 pub mod split_closed_edges;
 pub mod split_wires;

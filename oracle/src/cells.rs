@@ -153,10 +153,12 @@ impl<T: Copy + PartialEq> Row<T> {
 
     /// The content, and whether the seals are whole.
     fn open(mut self) -> (Vec<T>, bool) {
-        let behind = self.cells.split_off(self.cells.len() - MARGIN);
-        let content = self.cells.split_off(MARGIN);
-        let mut seals = self.cells.iter().chain(&behind);
-        (content, seals.all(|cell| *cell == self.seal))
+        let end = self.cells.len() - MARGIN;
+        let mut seals = self.cells[..MARGIN].iter().chain(&self.cells[end..]);
+        let whole = seals.all(|cell| *cell == self.seal);
+        self.cells.truncate(end);
+        self.cells.drain(..MARGIN);
+        (self.cells, whole)
     }
 }
 

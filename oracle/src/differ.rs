@@ -5,6 +5,7 @@ use crate::calls::cut_edge::CutEdge;
 use crate::calls::find_divisor::FindDivisor;
 use crate::calls::join_wires::JoinWires;
 use crate::calls::nearest_correction::NearestEnds;
+use crate::calls::several_cuts::SeveralCuts;
 use crate::calls::sort_wires::SortWires;
 use crate::calls::split_closed_edges::SplitClosed;
 use crate::calls::split_wires::SplitWires;
@@ -88,7 +89,7 @@ const fn runner<I: Families>() -> Runner {
 }
 
 /// All calls, in the order in which they are run.
-pub const CALLS: [Runner; 11] = [
+pub const CALLS: [Runner; 12] = [
     runner::<SplitClosed>(),
     runner::<CutParameter>(),
     runner::<Unwrap>(),
@@ -98,6 +99,7 @@ pub const CALLS: [Runner; 11] = [
     runner::<NearestEnds>(),
     runner::<FindDivisor>(),
     runner::<CutEdge>(),
+    runner::<SeveralCuts>(),
     runner::<JoinWires>(),
     runner::<SplitWires>(),
 ];

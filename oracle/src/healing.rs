@@ -8,6 +8,7 @@
 mod hash;
 pub mod prepared;
 mod quiet;
+mod turned;
 
 use crate::records::{self, Preparation};
 use crate::shim::*;
@@ -172,28 +173,39 @@ pub fn find_divisor(shell: &records::Shell) -> Result<Option<[u32; 2]>, PastEnd>
 #[derive(Clone, Copy, Debug, PartialEq, Eq)]
 pub struct PastEnd;
 
-/// The Rust's cut of an edge at a parameter, with its point, and the mending
-/// of all wires.
-pub fn cut(shell: &records::Shell, edge: u32, t: f64, point: [f64; 3]) -> records::Shell {
-    let [x, y, z] = point;
-    let cut = (t, Point3::new(x, y, z));
+/// The Rust's cut of an edge at one parameter, with its point, and the mending
+/// of all wires; so for each of these rows of t, x, y, z, one after the other.
+pub fn cut(shell: &records::Shell, edge: u32, cuts: &[[f64; 4]]) -> records::Shell {
     let before = stand_ins(&shell.vertices);
     let (mut points, mut edges) = (before.clone(), to_edges(&shell.edges));
     let (mut lines, mut wires) = (no_lines(edges.len()), to_wires(&shell.wires));
-    let tables = (&mut edges, &mut lines, &mut points);
-    split_closed_faces::ways::cut(edge as usize, vec![cut], tables, &mut wires);
+    for &[t, x, y, z] in cuts {
+        let cut = (t, Point3::new(x, y, z));
+        let tables = (&mut edges, &mut lines, &mut points);
+        split_closed_faces::ways::cut(edge as usize, vec![cut], tables, &mut wires);
+    }
     let added = points.split_off(before.len());
     assert!(points == before, "vertices are only added");
     let given = |point: Point3| records::Vertex::Given(point.x, point.y, point.z);
     let mut vertices = shell.vertices.clone();
     vertices.extend(added.into_iter().map(given));
-    let piece = shell.edges[edge as usize].preparation;
-    let preparations = preparations(&shell.edges, [piece]);
+    let pieces = vec![shell.edges[edge as usize].preparation; cuts.len()];
+    let preparations = preparations(&shell.edges, pieces);
     records::Shell {
         vertices,
         edges: from_edges(&edges, &preparations),
         wires: from_wires(&wires),
     }
+}
+
+/// The same from the last cut to the first, where they rise: each cuts the
+/// first piece, so that the pieces behind it stay. Only their numbers, and
+/// those of the new vertices, go from the last to the first; here they are
+/// turned round.
+pub fn cut_from_last(shell: &records::Shell, edge: u32, cuts: &[[f64; 4]]) -> records::Shell {
+    let falling: Vec<[f64; 4]> = cuts.iter().rev().copied().collect();
+    let [vertices, edges, _] = shell.counts();
+    turned::round(cut(shell, edge, &falling), [vertices, edges])
 }
 
 /// The Rust's `connect_open_boundaries` over two open wires and the new ones.

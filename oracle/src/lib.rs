@@ -3,6 +3,7 @@
 
 pub mod calls;
 pub mod cells;
+pub mod chain;
 pub mod compare;
 pub mod describe;
 #[cfg(rust_at_hand)]

@@ -70,6 +70,14 @@ fn lent(pass: Pass<'_>) -> (TablesMut<'_>, WiresMut<'_>, [&mut usize; 3]) {
     (tables, wires, places(pass.out))
 }
 
+/// The cuts of an edge.
+fn cuts<'a>(call: &Cut<'a>) -> Cuts<'a> {
+    Cuts {
+        floats: floats(call.cuts),
+        count: call.cut_count,
+    }
+}
+
 /// Two rows of uses, each with its count.
 fn stretches<'a>(uses: [&'a [u32]; 2], counts: [usize; 2]) -> [Stretch<'a>; 2] {
     let stretch = |i: usize| Stretch {
@@ -127,12 +135,15 @@ impl Port for Library {
     }
 
     fn cut_edge_by_intersections(&self, call: Cut<'_>) -> i32 {
-        let cuts = Cuts {
-            floats: floats(call.cuts),
-            count: call.cut_count,
-        };
+        let (cuts, edge) = (cuts(&call), call.edge);
         let (tables, wires, out) = lent(call.pass);
-        raw::cut_edge_by_intersections(tables, wires, cuts, call.edge, out)
+        raw::cut_edge_by_intersections(tables, wires, cuts, edge, out)
+    }
+
+    fn cut_edge_at_points(&self, call: Cut<'_>) -> i32 {
+        let (cuts, edge) = (cuts(&call), call.edge);
+        let (tables, wires, out) = lent(call.pass);
+        raw::cut_edge_at_points(tables, wires, cuts, edge, out)
     }
 
     fn connect_open_boundaries(&self, call: Join<'_>) -> i32 {

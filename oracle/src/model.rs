@@ -1,12 +1,13 @@
 //! The refusals, written down from the table of the specification, with A.5 for
-//! preparations and A.3 for k, and from nothing else: one function for each
-//! cause.
+//! preparations, A.3 for k and A.1 for several cuts, and from nothing else: one
+//! function for each cause.
 
 pub mod cut;
 pub mod eighths;
 pub mod join;
 pub mod near;
 pub mod search;
+pub mod several_cuts;
 pub mod split;
 
 use crate::shell::{Lent, Tables};

@@ -228,8 +228,8 @@ pub struct Search<'a> {
     pub out: &'a mut [u32],
 }
 
-/// What one call of `cut_edge_by_intersections` is lent: a shell, and rows of
-/// four floats t, x, y, z with the edge they cut.
+/// What one call of `cut_edge_by_intersections` or of `cut_edge_at_points` is
+/// lent: a shell, and rows of four floats t, x, y, z with the edge they cut.
 pub struct Cut<'a> {
     pub pass: Pass<'a>,
     pub cuts: &'a [u64],
@@ -326,6 +326,7 @@ pub trait Port: Sync {
     fn nearest_correction(&self, call: Nearest<'_>) -> i32;
     fn find_non_simple_wire_divisor(&self, call: Search<'_>) -> i32;
     fn cut_edge_by_intersections(&self, call: Cut<'_>) -> i32;
+    fn cut_edge_at_points(&self, call: Cut<'_>) -> i32;
     fn connect_open_boundaries(&self, call: Join<'_>) -> i32;
     fn split_boundaries_by_divisor(&self, call: Split<'_>) -> i32;
 }

@@ -9,6 +9,7 @@ pub mod join;
 pub mod near;
 pub mod pass;
 pub mod search;
+pub mod several_cuts;
 pub mod split;
 pub mod tables;
 
@@ -24,6 +25,7 @@ pub struct Reference {
     pub near: near::Steps,
     pub search: search::Steps,
     pub cut: cut::Steps,
+    pub several: several_cuts::Steps,
     pub join: join::Steps,
     pub split: split::Steps,
 }
@@ -63,6 +65,10 @@ impl Port for Reference {
 
     fn cut_edge_by_intersections(&self, call: Cut<'_>) -> i32 {
         cut::cut_edge_by_intersections(self, call)
+    }
+
+    fn cut_edge_at_points(&self, call: Cut<'_>) -> i32 {
+        several_cuts::cut_edge_at_points(self, call)
     }
 
     fn connect_open_boundaries(&self, call: Join<'_>) -> i32 {

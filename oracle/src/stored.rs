@@ -21,15 +21,17 @@
 //! stored while the quota of its answer is not full, if its slices are short
 //! and it is none of the named cases, which the worked examples are among.
 //! Some more are drawn until they tell named other implementations from the
-//! right one, splits until they make several wires along seams, and some calls
-//! that are done are changed in one thing: a count at its bound or past it, one
-//! that wraps, a list with a vertex twice, an unknown preparation, two causes of
-//! a refusal at once.
+//! right one, splits until they make several wires along seams, several cuts
+//! until they have a count, and some calls that are done are changed in one
+//! thing: a count at its bound or past it, one that wraps, a list with a vertex
+//! twice, a parameter twice, an unknown preparation, two causes of a refusal at
+//! once.
 
 use crate::calls::cut_edge::CutEdge;
 use crate::calls::find_divisor::FindDivisor;
 use crate::calls::join_wires::JoinWires;
 use crate::calls::nearest_correction::NearestEnds;
+use crate::calls::several_cuts::SeveralCuts;
 use crate::calls::sort_wires::SortWires;
 use crate::calls::split_closed_edges::SplitClosed;
 use crate::calls::split_wires::SplitWires;
@@ -39,6 +41,8 @@ use crate::port::{NearestCopy, Port, Unwrap, WireEnds};
 
 #[cfg(rust_at_hand)]
 mod altered;
+#[cfg(rust_at_hand)]
+mod chains;
 #[cfg(rust_at_hand)]
 mod changed;
 #[cfg(rust_at_hand)]
@@ -50,8 +54,9 @@ pub use altered::altered;
 #[cfg(rust_at_hand)]
 pub use make::{file_of, lists, make, QUOTAS};
 
-/// Most cells in a buffer that is stored.
-const MOST_CELLS: usize = 64;
+/// Most cells in a buffer that is stored: those of an edge with 64 cuts have
+/// more than 64 cells, and no others have.
+const MOST_CELLS: usize = 512;
 
 /// Whether the lengths of all slices come first.
 fn lengths_first<I: Input>() -> bool {
@@ -63,7 +68,37 @@ struct Reader<'a> {
     rest: std::slice::ChunksExact<'a, u8>,
 }
 
-impl Reader<'_> {
+/// Goes through the next record by a method of the reader, as one of the call
+/// with this number.
+macro_rules! by_number {
+    ($number:expr, $reader:ident.$method:ident($($argument:expr),*)) => {
+        match $number {
+            SplitClosed::NUMBER => $reader.$method::<SplitClosed>($($argument),*)?,
+            Unwrap::NUMBER => $reader.$method::<Unwrap>($($argument),*)?,
+            NearestCopy::NUMBER => $reader.$method::<NearestCopy>($($argument),*)?,
+            WireEnds::NUMBER => $reader.$method::<WireEnds>($($argument),*)?,
+            SortWires::NUMBER => $reader.$method::<SortWires>($($argument),*)?,
+            NearestEnds::NUMBER => $reader.$method::<NearestEnds>($($argument),*)?,
+            FindDivisor::NUMBER => $reader.$method::<FindDivisor>($($argument),*)?,
+            CutEdge::NUMBER => $reader.$method::<CutEdge>($($argument),*)?,
+            JoinWires::NUMBER => $reader.$method::<JoinWires>($($argument),*)?,
+            SplitWires::NUMBER => $reader.$method::<SplitWires>($($argument),*)?,
+            SeveralCuts::NUMBER => $reader.$method::<SeveralCuts>($($argument),*)?,
+            other => return Err(format!("no call has the number {other}")),
+        }
+    };
+}
+
+impl<'a> Reader<'a> {
+    /// A reader of a file, from its start.
+    fn of(bytes: &'a [u8]) -> Result<Self, String> {
+        let rest = bytes.chunks_exact(8);
+        match rest.remainder() {
+            [] => Ok(Reader { rest }),
+            _ => Err("the file is no row of words".into()),
+        }
+    }
+
     /// The next word.
     fn word(&mut self) -> Result<u64, String> {
         let bytes = self.rest.next().ok_or("the file ends in a record")?;
@@ -140,25 +175,38 @@ impl Reader<'_> {
         Ok(())
     }
 
+    /// Passes a record by.
+    fn pass_by<I: Input>(&mut self) -> Result<(), String> {
+        self.record::<I>().map(|_| ())
+    }
+
     /// Makes the calls of one list.
     fn judge_all(&mut self, run: &mut Run) -> Result<(), String> {
         loop {
             match self.word()? {
                 0 => return Ok(()),
-                SplitClosed::NUMBER => self.judge::<SplitClosed>(run)?,
-                Unwrap::NUMBER => self.judge::<Unwrap>(run)?,
-                NearestCopy::NUMBER => self.judge::<NearestCopy>(run)?,
-                WireEnds::NUMBER => self.judge::<WireEnds>(run)?,
-                SortWires::NUMBER => self.judge::<SortWires>(run)?,
-                NearestEnds::NUMBER => self.judge::<NearestEnds>(run)?,
-                FindDivisor::NUMBER => self.judge::<FindDivisor>(run)?,
-                CutEdge::NUMBER => self.judge::<CutEdge>(run)?,
-                JoinWires::NUMBER => self.judge::<JoinWires>(run)?,
-                SplitWires::NUMBER => self.judge::<SplitWires>(run)?,
-                other => return Err(format!("no call has the number {other}")),
+                number => by_number!(number, self.judge(run)),
             }
         }
     }
+}
+
+/// The file with the records of one call alone, by its number.
+pub fn only(bytes: &[u8], call: u64) -> Result<Vec<u8>, String> {
+    let mut reader = Reader::of(bytes)?;
+    let mut records = Vec::new();
+    while reader.rest.len() > 0 {
+        let start = bytes.len() - 8 * reader.rest.len();
+        let number = reader.word()?;
+        if number > 0 {
+            by_number!(number, reader.pass_by());
+        }
+        let end = bytes.len() - 8 * reader.rest.len();
+        if number == call || number == 0 {
+            records.extend_from_slice(&bytes[start..end]);
+        }
+    }
+    Ok(records)
 }
 
 /// Makes a call whose record was altered: it must differ from the record.
@@ -186,11 +234,7 @@ pub type Tallies = Vec<(&'static str, Tally)>;
 /// Makes every call of both lists: the calls that differ from their records in
 /// the first, and those that do not in the second, are the differences.
 pub fn replay_both(port: &dyn Port, bytes: &[u8]) -> Result<[Tallies; 2], String> {
-    let rest = bytes.chunks_exact(8);
-    if !rest.remainder().is_empty() {
-        return Err("the file is no row of words".into());
-    }
-    let mut reader = Reader { rest };
+    let mut reader = Reader::of(bytes)?;
     let mut runs = [false, true].map(|altered| Run {
         port,
         altered,

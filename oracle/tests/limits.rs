@@ -5,6 +5,7 @@ use oracle::calls::cut_edge::CutEdge;
 use oracle::calls::find_divisor::FindDivisor;
 use oracle::calls::join_wires::JoinWires;
 use oracle::calls::nearest_correction::NearestEnds;
+use oracle::calls::several_cuts::SeveralCuts;
 use oracle::calls::sort_wires::SortWires;
 use oracle::calls::split_closed_edges::SplitClosed;
 use oracle::calls::split_wires::SplitWires;
@@ -199,6 +200,47 @@ fn cut_edge() {
         "a double bevel beside others",
         "a double bevel cut cell by cell",
         "no cut, a preparation unknown",
+    ]));
+}
+
+#[test]
+fn several_cuts() {
+    hold::<SeveralCuts>(&with_preparations(&[
+        "edge (0, 1) reversed, two cuts",
+        "a closed edge, three cuts",
+        "at t0, between and at t1",
+        "both directions, twice",
+        "a closed seam",
+        "the last edge",
+        "two double bevel cuts cell by cell",
+        "a single bevel beside others",
+        "negative zero at zero",
+        "at neighbours",
+        "negative zero, then zero",
+        "the last of 64 as the one before",
+        "64 cuts",
+        "65 cuts",
+        "65 equal cuts",
+        "65 cuts and 64 rows",
+        "65 cuts and no room",
+        "65 cuts, the last outside",
+        "65 cuts, z of the last NaN",
+        "no cut in full tables",
+        "no cut, the edge at the count",
+        "no cut, a preparation unknown",
+        "4063 vertices, 33 cuts",
+        "4096 vertices, falling",
+        "4096 edges, 65 cuts",
+        "64 cuts, used 15 times",
+        "64 cuts, used 16 times",
+        "256 uses, three cuts, just enough room",
+        "65 edges and 65 uses",
+        "2 edges and 65 uses, no room",
+        "room for the first cut alone",
+        "too many cuts, most outside",
+        "too many cuts, which do not rise",
+        "falling cuts and no room",
+        "unused edge, t0 above t1",
     ]));
 }
 

@@ -2,7 +2,8 @@
 //! are put where the library stands, and every one of them must be found.
 
 use crate::runs::do_not_differ;
-use crate::wrong::{cut, eighths, join, lists, pass, split, Mutant};
+use crate::wrong::{cut, eighths, join, lists, pass, several_cuts, split, Mutant};
+use oracle::calls::several_cuts::SeveralCuts;
 use oracle::calls::split_closed_edges::SplitClosed;
 use oracle::calls::split_wires::SplitWires;
 use oracle::calls::Families;
@@ -137,6 +138,24 @@ fn every_wrong_cut_is_found() {
 }
 
 #[test]
+fn every_wrong_chain_is_found() {
+    let name = "cut_edge_at_points";
+    all_found(name, &TRIES, lists(name));
+    let checks = vec![
+        pass::wrong_refusals(),
+        pass::wrong_sight(),
+        pass::wrong_rows(),
+    ];
+    all_found(name, &TRIES, checks);
+}
+
+#[test]
+fn the_small_group_finds_every_wrong_chain() {
+    let name = "cut_edge_at_points";
+    all_found(name, &SMALL, several_cuts::wrong_results());
+}
+
+#[test]
 fn every_wrong_join_is_found() {
     let name = "connect_open_boundaries";
     all_found(name, &TRIES, lists(name));
@@ -183,6 +202,17 @@ fn first_breach<I: Families>(port: &dyn Port) -> Option<&'static str> {
 fn demand_3_alone_finds_wrong_splits() {
     for (what, port) in split::wrong_tallies() {
         let found = first_breach::<SplitWires>(port.as_ref());
+        println!("{what}: {found:?}");
+        assert!(found.is_some(), "{what} was not found");
+    }
+}
+
+/// That connected wires remain connected, and end where they did, finds these
+/// without any other word.
+#[test]
+fn connected_wires_alone_find_wrong_chains() {
+    for (what, port) in several_cuts::wrong_ways() {
+        let found = first_breach::<SeveralCuts>(port.as_ref());
         println!("{what}: {found:?}");
         assert!(found.is_some(), "{what} was not found");
     }

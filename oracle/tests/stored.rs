@@ -6,12 +6,13 @@ use oracle::calls::cut_edge::CutEdge;
 use oracle::calls::find_divisor::FindDivisor;
 use oracle::calls::join_wires::JoinWires;
 use oracle::calls::nearest_correction::NearestEnds;
+use oracle::calls::several_cuts::SeveralCuts;
 use oracle::calls::sort_wires::SortWires;
 use oracle::calls::split_closed_edges::SplitClosed;
 use oracle::calls::split_wires::SplitWires;
 use oracle::port::{NearestCopy, Port, Unwrap, WireEnds};
 use oracle::reference::Reference;
-use oracle::stored::{altered, file_of, lists, make, replay, replay_both, QUOTAS};
+use oracle::stored::{altered, file_of, lists, only, replay, replay_both, QUOTAS};
 use std::sync::OnceLock;
 
 /// Both lists, made once.
@@ -27,9 +28,8 @@ fn file() -> &'static [u8] {
 }
 
 #[test]
-fn stored_answers_are_always_the_same_and_hold() {
+fn stored_answers_hold() {
     let bytes = file();
-    assert!(bytes == make());
     assert!(bytes.len() <= 5_500_000, "{} bytes", bytes.len());
     let tallies = replay(&Reference::default(), bytes).unwrap();
     for ((name, tally), (call, least)) in tallies.iter().zip(QUOTAS) {
@@ -58,6 +58,7 @@ fn altered_records_differ() {
         altered::<CutEdge>(),
         altered::<JoinWires>(),
         altered::<SplitWires>(),
+        altered::<SeveralCuts>(),
     ];
     assert_eq!(tallies.len(), QUOTAS.len());
     for ((name, tally), ((call, _), calls)) in tallies.iter().zip(QUOTAS.iter().zip(calls)) {
@@ -77,7 +78,7 @@ fn a_record_that_is_not_altered_is_seen() {
 }
 
 /// The list that the Rattle program replays is the one that `oracle store`
-/// writes.
+/// writes: made another time, it is the same.
 #[test]
 fn the_list_in_the_repository_is_this_one() {
     let place = concat!(env!("CARGO_MANIFEST_DIR"), "/../crates/replay/stdin");
@@ -86,9 +87,11 @@ fn the_list_in_the_repository_is_this_one() {
 
 /// The wrong ports of a call that its stored answers do not find.
 fn missed(call: &str) -> Vec<&'static str> {
+    let number = 1 + QUOTAS.iter().position(|(name, _)| *name == call).unwrap();
+    let records = only(file(), number as u64).unwrap();
     let found = |port: &dyn Port| {
         let only = Only { name: call, port };
-        let [tallies, _] = replay_both(&only, file()).unwrap();
+        let [tallies, _] = replay_both(&only, &records).unwrap();
         let mut made = tallies.iter().filter(|(_, tally)| tally.calls > 0);
         let (name, tally) = made.next().expect("the call is stored");
         assert_eq!((*name, made.count()), (call, 0));
@@ -176,6 +179,30 @@ fn stored_answers_find_wrong_cuts() {
 }
 
 #[test]
+fn stored_answers_find_wrong_chains() {
+    // These need an equal pair at the end of 64 cuts, 65 cuts and an edge or a
+    // vertex that is not there, more edges or uses than a stored call has, tables
+    // at their bounds, or a NaN in a call that is done.
+    let known = [
+        "the pair of the 63rd and the 64th not looked at",
+        "16 before 3",
+        "16 before 2",
+        "no bound on vertices out",
+        "no bound on edges out",
+        "no bound on uses out",
+        "4096 vertices out are too many",
+        "4096 edges out are too many",
+        "1024 uses out are too many",
+        "NaN made quiet past the result",
+        "the last of 65 uses turned",
+        "the last of 65 uses out turned",
+        "the preparation of 65 edges lost",
+        "only 64 occurrences of a wire mended",
+    ];
+    assert_eq!(missed("cut_edge_at_points"), known);
+}
+
+#[test]
 fn stored_answers_find_wrong_joins() {
     // These need more uses than a stored buffer holds.
     let known = [
@@ -215,6 +242,6 @@ fn a_damaged_file_is_turned_away() {
     assert!(replay(&reference, &bytes[..bytes.len() - 1]).is_err());
     assert!(replay(&reference, &[]).is_err());
     assert!(replay(&reference, &0u64.to_le_bytes()).is_err());
-    assert!(replay(&reference, &11u64.to_le_bytes()).is_err());
+    assert!(replay(&reference, &12u64.to_le_bytes()).is_err());
     assert!(replay(&reference, &[bytes, &[0; 8]].concat()).is_err());
 }

@@ -1,9 +1,9 @@
 /*
- * A host in C: worked cases of document 01, cuts at every eighth and
- * preparations of edges through the header and the archive, and what the
- * header defines. Every slice is a block of just its size, so that a tool that
- * watches memory sees a step beyond it. A line for each case, and one for a
- * refusal; the exit status is 1 where a case is not the same.
+ * A host in C: worked cases of document 01, cuts at every eighth and at several
+ * points and preparations of edges through the header and the archive, and what
+ * the header defines. Every slice is a block of just its size, so that a tool
+ * that watches memory sees a step beyond it. A line for each case, and one for
+ * a refusal; the exit status is 1 where a case is not the same.
  */
 #include "kaugrenna.h"
 
@@ -74,12 +74,12 @@ static void header(void) {
     tell("uses", FORWARD(3) == 6 && REVERSED(3) == 7 && KAUGRENNA_EDGE(7) == 3 &&
                      KAUGRENNA_REVERSED(7) == 1 && KAUGRENNA_REVERSED(6) == 0 &&
                      largest == UINT32_MAX && KAUGRENNA_EDGE(largest) == 2147483647u);
-    /* All codes but 16 and 17, which no call answers, have a text of their own. */
+    /* All codes have a text of their own. */
     int other = 0;
     for (int32_t code = -1; code <= KAUGRENNA_EIGHTHS_OUT_OF_RANGE; code++) {
         other += strcmp(kaugrenna_text(code), kaugrenna_text(MARK)) != 0;
     }
-    tell("texts", other == 18 && strcmp(kaugrenna_text(-2), kaugrenna_text(MARK)) == 0);
+    tell("texts", other == 20 && strcmp(kaugrenna_text(-2), kaugrenna_text(MARK)) == 0);
 }
 
 /* K1: the square edge (0, 0) with span 7 from 0 to 8 and the wire 0+, and room for the cut. */
@@ -90,15 +90,15 @@ static const double K1_FLOATS[EDGE_FLOATS(2)] = {0, 0, 0, 0, 0, 8};
 static const uint32_t K1_USES[2] = {FORWARD(0), MARK};
 static const uint32_t K1_LENGTHS[1] = {1};
 
-/* What is lent of K1, and the places for counts of vertices, edges and uses. */
-struct k1 {
+/* What is lent, and the places for counts of vertices, edges and uses. */
+struct lent {
     uint32_t *vn, *en, *us, *ls;
     double *vf, *ef;
     size_t v, e, n;
 };
 
-static struct k1 lend_k1(void) {
-    struct k1 s;
+static struct lent lend_k1(void) {
+    struct lent s;
     s.vn = COPY(K1_VERTICES), s.vf = COPY(K1_POINTS);
     s.en = COPY(K1_EDGES), s.ef = COPY(K1_FLOATS);
     s.us = COPY(K1_USES), s.ls = COPY(K1_LENGTHS);
@@ -106,26 +106,26 @@ static struct k1 lend_k1(void) {
     return s;
 }
 
-static void free_k1(struct k1 s) {
+static void free_lent(struct lent s) {
     free(s.vn), free(s.vf), free(s.en), free(s.ef), free(s.us), free(s.ls);
 }
 
 /* The pass over K1, with so many rows for the numbers of vertices. */
-static int32_t pass(struct k1 *s, size_t rows, uint32_t k) {
+static int32_t pass(struct lent *s, size_t rows, uint32_t k) {
     return kaugrenna_split_closed_edges(s->vn, VERTEX_NUMBERS(rows), LEND(s->vf, K1_POINTS),
                                         LEND(s->en, K1_EDGES), LEND(s->ef, K1_FLOATS),
                                         LEND(s->us, K1_USES), LEND(s->ls, K1_LENGTHS), 1, 1, 1, k,
                                         &s->v, &s->e, &s->n);
 }
 
-static int is_kept(const struct k1 *s) {
+static int is_kept(const struct lent *s) {
     return s->v == MARK && s->e == MARK && s->n == MARK && SAME(s->vn, K1_VERTICES) &&
            SAME(s->vf, K1_POINTS) && SAME(s->en, K1_EDGES) && SAME(s->ef, K1_FLOATS) &&
            SAME(s->us, K1_USES) && SAME(s->ls, K1_LENGTHS);
 }
 
 /* Whether the edge is cut at t, and the new vertex is pending there. */
-static int is_cut(const struct k1 *s, double t) {
+static int is_cut(const struct lent *s, double t) {
     const uint32_t vertices[] = {KAUGRENNA_GIVEN, 0, 0, KAUGRENNA_PENDING, KAUGRENNA_SPAN, 7};
     const double points[] = {0, 0, 0, 0, 0, 0, 0, 0, 0, 0, 0, 0, 8, t};
     const uint32_t edges[] = {0, 1, SQUARE_SPAN(7), 1, 0, SQUARE_SPAN(7)};
@@ -138,18 +138,18 @@ static int is_cut(const struct k1 *s, double t) {
 /* K1, and the edge cut at each eighth of its curve. */
 static void k1(void) {
     for (uint32_t k = 1; k <= 7; k++) {
-        struct k1 s = lend_k1();
+        struct lent s = lend_k1();
         int32_t code = pass(&s, 2, k);
         tell(k == KAUGRENNA_MIDDLE ? "K1" : "K1 cut elsewhere",
              code == KAUGRENNA_DONE && is_cut(&s, k));
-        free_k1(s);
+        free_lent(s);
     }
 }
 
 /* What the pass over K1 refuses: nothing changes. */
 static void k1_refused(void) {
     const uint32_t none[] = {0, 8, UINT32_MAX};
-    struct k1 s = lend_k1();
+    struct lent s = lend_k1();
     int32_t code = pass(&s, 1, KAUGRENNA_MIDDLE);
     tell("no room", code == KAUGRENNA_NO_ROOM && is_kept(&s));
     printf("refused (%ld): %s\n", (long)code, kaugrenna_text(code));
@@ -162,7 +162,7 @@ static void k1_refused(void) {
         tell("no edge", pass(&s, 2, none[i]) == KAUGRENNA_EDGE_NUMBER);
         s.us[0] = FORWARD(0);
     }
-    free_k1(s);
+    free_lent(s);
 }
 
 /* Whether this is the parameter, to the bit: 0.0 is not -0.0. */
@@ -236,6 +236,97 @@ static void one_cut(void) {
                         SAME(vn, given_vertices) && SAME(vf, points) && SAME(en, edges) &&
                         SAME(ef, floats) && SAME(us, uses) && SAME(ls, lengths));
     free(vn), free(vf), free(en), free(ef), free(us), free(ls), free(cuts);
+}
+
+/* The rim of a cone: edge 0 = (0, 1) from 0 to 8 with double bevel and the wire 0-, and room for
+   two cuts. */
+#define RIM_ENDS KAUGRENNA_GIVEN, 0, 0, KAUGRENNA_GIVEN, 0, 0
+static const uint32_t RIM_VERTICES[] = {RIM_ENDS, MARK, MARK, MARK, MARK, MARK, MARK};
+static const double RIM_POINTS[VERTEX_FLOATS(4)] = {1, 0, 0, 0, 0, 0, 0, -1};
+static const uint32_t RIM_EDGES[EDGE_NUMBERS(3)] = {0, 1, DOUBLE_SPAN(7), EDGE_MARKS, EDGE_MARKS};
+static const double RIM_FLOATS[EDGE_FLOATS(3)] = {0, 0, 0, 0, 0, 8};
+static const uint32_t RIM_USES[3] = {REVERSED(0), MARK, MARK};
+static const uint32_t RIM_LENGTHS[1] = {1};
+
+static struct lent lend_rim(void) {
+    struct lent s;
+    s.vn = COPY(RIM_VERTICES), s.vf = COPY(RIM_POINTS);
+    s.en = COPY(RIM_EDGES), s.ef = COPY(RIM_FLOATS);
+    s.us = COPY(RIM_USES), s.ls = COPY(RIM_LENGTHS);
+    s.v = s.e = s.n = MARK;
+    return s;
+}
+
+/* So many cuts of the rim, of which so many cells are lent. */
+static int32_t cut_rim(struct lent *s, const double *cuts, size_t cells, size_t count) {
+    double *lent = block(cuts, cells, sizeof *cuts);
+    int32_t code = kaugrenna_cut_edge_at_points(
+        LEND(s->vn, RIM_VERTICES), LEND(s->vf, RIM_POINTS), LEND(s->en, RIM_EDGES),
+        LEND(s->ef, RIM_FLOATS), LEND(s->us, RIM_USES), LEND(s->ls, RIM_LENGTHS), lent, cells, 2,
+        1, 1, 0, count, &s->v, &s->e, &s->n);
+    free(lent);
+    return code;
+}
+
+static int holds_rim(const struct lent *s) {
+    return SAME(s->vn, RIM_VERTICES) && SAME(s->vf, RIM_POINTS) && SAME(s->en, RIM_EDGES) &&
+           SAME(s->ef, RIM_FLOATS) && SAME(s->us, RIM_USES) && SAME(s->ls, RIM_LENGTHS);
+}
+
+/* Whether so many cuts are refused with this code, and nothing changes. */
+static int is_rim_refused(const double *cuts, size_t cells, size_t count, int32_t code) {
+    struct lent s = lend_rim();
+    int same = cut_rim(&s, cuts, cells, count) == code && s.v == MARK && s.e == MARK &&
+               s.n == MARK && holds_rim(&s);
+    free_lent(s);
+    return same;
+}
+
+/* Cut at 2 by (0, 1, 0) and at 5 by (-1, 0, 0.5) the rim is edges 0 = (0, 2), 1 = (2, 3) and
+   2 = (3, 1) with double bevel, and the wire 2- 1- 0-. */
+static void two_cuts(void) {
+    const double cuts[2 * KAUGRENNA_FLOATS_PER_CUT] = {2, 0, 1, 0, 5, -1, 0, 0.5};
+    const uint32_t edges[] = {0, 2, DOUBLE_SPAN(7), 2, 3, DOUBLE_SPAN(7), 3, 1, DOUBLE_SPAN(7)};
+    const double floats[] = {0, 0, 0, 0, 0, 2, 0, 0, 0, 0, 2, 5, 0, 0, 0, 0, 5, 8};
+    /* The row of a given vertex has one number. */
+    const uint32_t vertices[] = {RIM_ENDS, KAUGRENNA_GIVEN, MARK, MARK,
+                                 KAUGRENNA_GIVEN, MARK, MARK};
+    const double points[] = {1, 0, 0, 0, 0, 0, 0, -1, 0, 0, 0, 0, 0, 0,
+                             0, 1, 0, 0, 0, 0, 0, -1, 0, 0.5, 0, 0, 0, 0};
+    const uint32_t uses[] = {REVERSED(2), REVERSED(1), REVERSED(0)}, lengths[] = {3};
+    struct lent s = lend_rim();
+    int32_t code = cut_rim(&s, cuts, COUNT(cuts), 0);
+    tell("no cut", code == KAUGRENNA_DONE && s.v == 2 && s.e == 1 && s.n == 1 && holds_rim(&s));
+    code = cut_rim(&s, cuts, COUNT(cuts), 2);
+    tell("cut at two points", code == KAUGRENNA_DONE && s.v == 4 && s.e == 3 && s.n == 3 &&
+                                  SAME(s.vn, vertices) && SAME(s.vf, points) &&
+                                  SAME(s.en, edges) && SAME(s.ef, floats) && SAME(s.us, uses) &&
+                                  SAME(s.ls, lengths));
+    free_lent(s);
+}
+
+/* What cuts of the rim are refused: 65 of them rise from 0 to 8. */
+static void cuts_refused(void) {
+    enum { MOST = KAUGRENNA_MAX_CUTS, CELLS = (MOST + 1) * KAUGRENNA_FLOATS_PER_CUT };
+    double cuts[CELLS] = {0};
+    for (int cut = 0; cut <= MOST; cut++) {
+        cuts[cut * KAUGRENNA_FLOATS_PER_CUT] = cut / 8.0;
+    }
+    tell("too few floats", is_rim_refused(cuts, CELLS - 1, MOST + 1, KAUGRENNA_MALFORMED));
+    tell("too many cuts", is_rim_refused(cuts, CELLS, MOST + 1, KAUGRENNA_TOO_MANY_CUTS));
+    tell("no room for cuts", is_rim_refused(cuts, CELLS, MOST, KAUGRENNA_NO_ROOM) &&
+                                 is_rim_refused(cuts, CELLS, 3, KAUGRENNA_NO_ROOM));
+    /* 0.0 is not above 0.0, and not above -0.0. */
+    const double zeros[] = {0.0, -0.0};
+    cuts[KAUGRENNA_FLOATS_PER_CUT] = 0.0;
+    for (size_t i = 0; i < COUNT(zeros); i++) {
+        cuts[0] = zeros[i];
+        tell("not rising", is_rim_refused(cuts, CELLS, 2, KAUGRENNA_NOT_RISING) &&
+                               is_rim_refused(cuts, CELLS, MOST, KAUGRENNA_NOT_RISING) &&
+                               is_rim_refused(cuts, CELLS, MOST + 1, KAUGRENNA_TOO_MANY_CUTS));
+    }
+    cuts[MOST * KAUGRENNA_FLOATS_PER_CUT] = 9;
+    tell("past the curve", is_rim_refused(cuts, CELLS, MOST + 1, KAUGRENNA_OUT_OF_RANGE));
 }
 
 /* K4, K5, K17, K18, K19, and a sorting of three wires. */
@@ -424,6 +515,8 @@ int main(void) {
     parameters();
     parameters_refused();
     one_cut();
+    two_cuts();
+    cuts_refused();
     numbers();
     search();
     split();

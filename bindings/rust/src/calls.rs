@@ -131,7 +131,8 @@ pub fn cut_parameter(t0: f64, t1: f64, k: u32) -> Result<f64, Refusal> {
 
 /// Cuts edge number `edge` at a parameter and point, and mends every wire, in
 /// place. Both pieces have the preparation of the edge that was cut. No cut
-/// changes nothing; two or more are refused.
+/// changes nothing; two or more are refused, which [`cut_edge_at_points`]
+/// takes.
 pub fn cut_edge_by_intersections(
     tables: TablesMut<'_>,
     wires: WiresMut<'_>,
@@ -142,6 +143,58 @@ pub fn cut_edge_by_intersections(
     let out = [&mut counts.vertices, &mut counts.edges, &mut counts.uses];
     let code = raw::cut_edge_by_intersections(tables, wires, cuts, edge, out);
     done(code).map(|()| counts)
+}
+
+/// Cuts edge number `edge` at several points, at most
+/// [`MAX_CUTS`](crate::lent::MAX_CUTS) in strictly rising parameter, and mends
+/// every wire, in place. The edge becomes a chain of pieces: the first keeps
+/// its number, the new edges and the new vertices are numbered along the curve.
+/// Each piece has the preparation of the edge that was cut. No cut changes
+/// nothing, and one is made as by [`cut_edge_by_intersections`].
+///
+/// The rim of a cone, edge (0, 1) with span 7 from 0 to 8, meets three slots
+/// at 2, 4 and 6; it is used by wire 0+ and, from the other side, by 0-:
+///
+/// ```
+/// use kaugrenna::{cut_edge_at_points, Counts, Cuts, OwnedTables, OwnedWires};
+///
+/// let mut tables = OwnedTables {
+///     vertex_numbers: vec![0; 15],
+///     vertex_floats: vec![0.0; 35],
+///     edge_numbers: vec![0; 20],
+///     edge_floats: vec![0.0; 24],
+///     vertices: 2,
+///     edges: 1,
+/// };
+/// tables.edge_numbers[..5].copy_from_slice(&[0, 1, 0, 7, 0]);
+/// tables.edge_floats[5] = 8.0;
+/// let mut wires = OwnedWires { uses: vec![0; 8], lengths: vec![1, 1], count: 2 };
+/// wires.uses[1] = 1;
+/// let cuts = Cuts {
+///     // The parameter of each cut, and its point.
+///     floats: &[2.0, 0.5, 0.5, 0.0, 4.0, 0.0, 1.0, 0.0, 6.0, -0.5, 0.5, 0.0],
+///     count: 3,
+/// };
+/// let counts = cut_edge_at_points(tables.lend_mut(), wires.lend_mut(), cuts, 0)?;
+/// assert_eq!(counts, Counts { vertices: 5, edges: 4, uses: 8 });
+/// let pieces = [[0, 2, 0, 7, 0], [2, 3, 0, 7, 0], [3, 4, 0, 7, 0], [4, 1, 0, 7, 0]];
+/// assert_eq!(tables.edge_numbers, pieces.concat());
+/// let ranges = [5, 10, 11, 16, 17, 22, 23].map(|cell| tables.edge_floats[cell]);
+/// assert_eq!(ranges, [2.0, 2.0, 4.0, 4.0, 6.0, 6.0, 8.0]);
+/// // 0+ 1+ 2+ 3+ and 3- 2- 1- 0-
+/// assert_eq!(wires.uses, [0, 2, 4, 6, 7, 5, 3, 1]);
+/// assert_eq!(wires.lengths, [4, 4]);
+/// # Ok::<(), kaugrenna::Refusal>(())
+/// ```
+pub fn cut_edge_at_points(
+    tables: TablesMut<'_>,
+    wires: WiresMut<'_>,
+    cuts: Cuts<'_>,
+    edge: u32,
+) -> Result<Counts, Refusal> {
+    let mut counts = Counts::default();
+    let out = [&mut counts.vertices, &mut counts.edges, &mut counts.uses];
+    done(raw::cut_edge_at_points(tables, wires, cuts, edge, out)).map(|()| counts)
 }
 
 /// Of u moved by -2 to 2 periods, the number nearest to u0.
@@ -276,7 +329,7 @@ mod tests {
 
     #[test]
     fn codes_that_are_not_known() {
-        for code in [16, 17, 19, -2, i32::MAX, i32::MIN] {
+        for code in [19, 20, -2, i32::MAX, i32::MIN] {
             assert_eq!(done(code), Err(Refusal::Unknown(code)));
             assert_eq!(found(code), Err(Refusal::Unknown(code)));
         }

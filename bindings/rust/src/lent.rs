@@ -29,6 +29,8 @@ pub const MAX_ROWS: usize = 4096;
 pub const MAX_WIRES: usize = 64;
 /// The most uses in all wires of a call together, and in its result.
 pub const MAX_USES: usize = 1024;
+/// The most cuts of an edge in a call.
+pub const MAX_CUTS: usize = 64;
 /// The largest size of a float that is lent.
 pub const MAX_SIZE: f64 = 1.0e15;
 
@@ -152,7 +154,8 @@ impl<'a> From<&'a [u32]> for Stretch<'a> {
     }
 }
 
-/// The places at which an edge is to be cut.
+/// The places at which an edge is to be cut; several in strictly rising
+/// parameter.
 #[derive(Clone, Copy, Debug)]
 pub struct Cuts<'a> {
     /// [`CUT_FLOATS`] for each cut.

@@ -1,4 +1,4 @@
-//! Cut edges and mended wires for burner pipe shells: the eleven calls of
+//! Cut edges and mended wires for burner pipe shells: the twelve calls of
 //! Kaugrenna's archive, whose contracts are proved, as safe functions.
 //!
 //! A host lends slices and counts ([`lent`]); a call answers a result, or

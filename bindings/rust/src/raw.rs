@@ -43,6 +43,30 @@ macro_rules! ask {
     };
 }
 
+/// Makes one of the two calls that cut one edge, which take the same.
+macro_rules! ask_to_cut {
+    ($name:ident($tables:ident, $wires:ident, $cuts:ident, $edge:ident, $out:ident)) => {{
+        let [vertices_out, edges_out, uses_out] = $out;
+        ask!($name(
+            as_mut_ptr $tables.vertex_numbers,
+            as_mut_ptr $tables.vertex_floats,
+            as_mut_ptr $tables.edge_numbers,
+            as_mut_ptr $tables.edge_floats,
+            as_mut_ptr $wires.uses,
+            as_mut_ptr $wires.lengths,
+            as_ptr $cuts.floats;
+            $tables.vertices,
+            $tables.edges,
+            $wires.count,
+            $edge,
+            $cuts.count,
+            vertices_out,
+            edges_out,
+            uses_out
+        ))
+    }};
+}
+
 /// Cuts every closed edge, k eighths of the way along its curve. `out`:
 /// vertices, edges, uses.
 pub fn split_closed_edges(
@@ -78,7 +102,7 @@ pub fn cut_parameter(t0: f64, t1: f64, k: u32, t_out: &mut f64) -> i32 {
     unsafe { c::kaugrenna_cut_parameter(t0, t1, k, t_out) }
 }
 
-/// Cuts edge number `edge`. `out`: vertices, edges, uses.
+/// Cuts edge number `edge` at one point. `out`: vertices, edges, uses.
 pub fn cut_edge_by_intersections(
     tables: TablesMut<'_>,
     wires: WiresMut<'_>,
@@ -86,28 +110,25 @@ pub fn cut_edge_by_intersections(
     edge: u32,
     out: [&mut usize; 3],
 ) -> i32 {
-    let [vertices_out, edges_out, uses_out] = out;
     // SAFETY: the cuts are only read; the six slices and the three places that
     // are written are `&mut` of their own.
     unsafe {
-        ask!(kaugrenna_cut_edge_by_intersections(
-            as_mut_ptr tables.vertex_numbers,
-            as_mut_ptr tables.vertex_floats,
-            as_mut_ptr tables.edge_numbers,
-            as_mut_ptr tables.edge_floats,
-            as_mut_ptr wires.uses,
-            as_mut_ptr wires.lengths,
-            as_ptr cuts.floats;
-            tables.vertices,
-            tables.edges,
-            wires.count,
-            edge,
-            cuts.count,
-            vertices_out,
-            edges_out,
-            uses_out
+        ask_to_cut!(kaugrenna_cut_edge_by_intersections(
+            tables, wires, cuts, edge, out
         ))
     }
+}
+
+/// Cuts edge number `edge` at several points. `out`: vertices, edges, uses.
+pub fn cut_edge_at_points(
+    tables: TablesMut<'_>,
+    wires: WiresMut<'_>,
+    cuts: Cuts<'_>,
+    edge: u32,
+    out: [&mut usize; 3],
+) -> i32 {
+    // SAFETY: as for one point.
+    unsafe { ask_to_cut!(kaugrenna_cut_edge_at_points(tables, wires, cuts, edge, out)) }
 }
 
 /// Unwraps u towards u0.

@@ -53,6 +53,10 @@ pub enum Refusal {
     SeveralCuts,
     /// 15: an open wire handed to a join is empty.
     EmptyOpenWire,
+    /// 16: an edge is to be cut at more than 64 places.
+    TooManyCuts,
+    /// 17: the parameters of the cuts do not rise strictly.
+    NotRising,
     /// 18: the number of eighths is outside 1 to 7.
     EighthsOutOfRange,
     /// A code that is unknown, or "none" from a call that has no "none".
@@ -62,9 +66,9 @@ pub enum Refusal {
 }
 
 impl Refusal {
-    /// All refusals of the refusal table, in the order of their numbers: 1 to
-    /// 15, and 18.
-    pub const ALL: [Refusal; 16] = [
+    /// All refusals of the refusal table, in the order of their numbers, 1 to
+    /// 18.
+    pub const ALL: [Refusal; 18] = [
         Refusal::Malformed,
         Refusal::VertexNumber,
         Refusal::EdgeNumber,
@@ -80,6 +84,8 @@ impl Refusal {
         Refusal::EmptyList,
         Refusal::SeveralCuts,
         Refusal::EmptyOpenWire,
+        Refusal::TooManyCuts,
+        Refusal::NotRising,
         Refusal::EighthsOutOfRange,
     ];
 
@@ -102,6 +108,8 @@ impl Refusal {
             Refusal::EmptyList => 13,
             Refusal::SeveralCuts => 14,
             Refusal::EmptyOpenWire => 15,
+            Refusal::TooManyCuts => 16,
+            Refusal::NotRising => 17,
             Refusal::EighthsOutOfRange => 18,
             Refusal::Unknown(code) => code,
             Refusal::UnknownKind(_) => DONE,
@@ -152,6 +160,8 @@ impl fmt::Display for Refusal {
             Refusal::EmptyList => "the walk arrives at a vertex whose list is empty",
             Refusal::SeveralCuts => "an edge is to be cut at two or more places",
             Refusal::EmptyOpenWire => "an open wire handed to a join is empty",
+            Refusal::TooManyCuts => "an edge is to be cut at more than 64 places",
+            Refusal::NotRising => "the parameters of the cuts do not rise strictly",
             Refusal::EighthsOutOfRange => "the number of eighths is outside 1 to 7",
             Refusal::Unknown(code) => {
                 return write!(to, "the code {code} is unknown: {APART}");

@@ -60,6 +60,6 @@ fn no_line_of_a_clause_is_too_long() {
         }
         exports += source.matches("pub extern \"C\" fn").count();
     }
-    // All eleven exports were among them.
-    assert_eq!(exports, 11);
+    // All twelve exports were among them.
+    assert_eq!(exports, 12);
 }

@@ -10,7 +10,7 @@ use kaugrenna::{lent, BoundaryType, Preparation, Refusal};
 
 const HEADER: &str = include_str!("../../../include/kaugrenna.h");
 
-/// The eleven calls by name, each with its arguments: what stands between
+/// The twelve calls by name, each with its arguments: what stands between
 /// `before` and `after`, as this text writes a call.
 fn calls(text: &str, before: &str, after: &str) -> BTreeMap<String, Vec<String>> {
     let call = |call: &str| {
@@ -23,7 +23,7 @@ fn calls(text: &str, before: &str, after: &str) -> BTreeMap<String, Vec<String>>
     };
     let start = format!("{before}kaugrenna_");
     let calls: BTreeMap<_, _> = text.split(&start).skip(1).map(call).collect();
-    assert_eq!(calls.len(), 11);
+    assert_eq!(calls.len(), 12);
     calls
 }
 
@@ -150,6 +150,7 @@ fn the_constants_are_those_of_the_module() {
         ("MAX_ROWS", lent::MAX_ROWS as f64),
         ("MAX_WIRES", lent::MAX_WIRES as f64),
         ("MAX_USES", lent::MAX_USES as f64),
+        ("MAX_CUTS", lent::MAX_CUTS as f64),
         ("MAX_SIZE", lent::MAX_SIZE),
         ("MIDDLE", kaugrenna::MIDDLE.into()),
         ("DONE", raw::DONE.into()),
@@ -181,7 +182,7 @@ fn the_constants_are_those_of_the_module() {
 fn the_widths_the_preparations_and_the_refusals_are_those_of_the_crates() {
     let crates = [
         include_str!("../../../crates/compress/src/lib.rt"),
-        include_str!("../../../crates/one_cut/src/cuts.rt"),
+        include_str!("../../../crates/edge_cuts/src/cuts.rt"),
         include_str!("../../../crates/split/src/seams.rt"),
         include_str!("../../../crates/wire_kinds/src/lib.rt"),
     ];
@@ -208,6 +209,9 @@ fn the_bounds_are_those_of_readme() {
     assert!(readme.contains(&bounds), "{bounds}");
     let header = HEADER.replace("\n *", "");
     assert!(header.contains(&bounds), "{bounds}");
+    let cuts = format!("more than {} places", lent::MAX_CUTS);
+    let sentence = Refusal::TooManyCuts.to_string();
+    assert!(sentence.ends_with(&cuts), "{sentence}");
 }
 
 /// What `kaugrenna_text` says, by the name of its case.

@@ -142,6 +142,48 @@ fn places_of_the_pass_after_eighths_that_are_refused() {
 }
 
 #[test]
+fn places_of_cuts_at_points() {
+    // Two vertices, the edge (0, 1) from 0 to 8 and the wire 0-, with room for
+    // two cuts.
+    let mut tables = OwnedTables {
+        vertex_numbers: vec![0; 12],
+        vertex_floats: vec![0.0; 28],
+        edge_numbers: vec![0; 15],
+        edge_floats: vec![0.0; 18],
+        vertices: 2,
+        edges: 1,
+    };
+    tables.edge_numbers[1] = 1;
+    tables.edge_floats[5] = 8.0;
+    let mut wires = OwnedWires {
+        uses: vec![1, 0, 0],
+        lengths: vec![1],
+        count: 1,
+    };
+    let mut cut = |parameters: &[f64], count, edge| {
+        let floats = parameters.iter().flat_map(|&t| [t, 0.0, 0.0, 0.0]);
+        let floats = &floats.collect::<Vec<_>>();
+        let cuts = Cuts { floats, count };
+        counts(|out| {
+            let (tables, wires) = (tables.lend_mut(), wires.lend_mut());
+            raw::cut_edge_at_points(tables, wires, cuts, edge, out)
+        })
+    };
+    let refused = |code| (code, [7, 8, 9]);
+    assert_eq!(cut(&[1.0], usize::MAX, 0), refused(1));
+    assert_eq!(cut(&[1.0], 2, 0), refused(1));
+    assert_eq!(cut(&[], 0, 1), refused(3));
+    assert_eq!(cut(&[1.0, f64::from_bits(MARK)], 2, 0), refused(4));
+    assert_eq!(cut(&[1.0, 8.5], 2, 0), refused(5));
+    assert_eq!(cut(&[1.0; 65], 65, 0), refused(16));
+    assert_eq!(cut(&[1.0; 64], 64, 0), refused(17));
+    assert_eq!(cut(&[1.0, 2.0, 3.0], 3, 0), refused(6));
+    assert_eq!(cut(&[], 0, 0), (DONE, [2, 1, 1]));
+    assert_eq!(cut(&[1.0, 2.0], 2, 0), (DONE, [4, 3, 3]));
+    assert_eq!((wires.uses, wires.lengths), (vec![5, 3, 1], vec![3]));
+}
+
+#[test]
 fn places_of_the_cuts_after_an_unknown_preparation() {
     let mut wires = OwnedWires::default();
     let mut tables = unknown_preparation();
@@ -154,11 +196,10 @@ fn places_of_the_cuts_after_an_unknown_preparation() {
         floats: &[0.0; 4],
         count: 1,
     };
-    let cut = counts(|out| {
-        let (tables, wires) = (tables.lend_mut(), wires.lend_mut());
-        raw::cut_edge_by_intersections(tables, wires, cuts, 0, out)
-    });
-    assert_eq!(cut, (1, [7, 8, 9]));
+    for cut in [raw::cut_edge_by_intersections, raw::cut_edge_at_points] {
+        let cut = counts(|out| cut(tables.lend_mut(), wires.lend_mut(), cuts, 0, out));
+        assert_eq!(cut, (1, [7, 8, 9]));
+    }
     assert_eq!(tables.edge_numbers, unknown_preparation().edge_numbers);
 }
 

@@ -1,11 +1,12 @@
-//! The worked cases of document 01, through the safe layer, and what becomes
-//! of preparations, which are square there.
+//! The worked cases of document 01, through the safe layer, cuts at several
+//! points, and what becomes of preparations, which are square in document 01.
 
 mod common;
 
-use common::{bits, wire, Shell, Split, FLOAT_MARK, MARK, PIPE_WIRE};
+use common::{bits, wire, Shell, Split, FLOAT_MARK, MARK, PIPE, PIPE_WIRE};
+use kaugrenna::lent::{GIVEN, MAX_CUTS, MAX_USES, SEAM};
 use kaugrenna::{boundary_type, cut_parameter, get_mindiff, nearest_copy, sort_wires};
-use kaugrenna::{connect_open_boundaries, cut_edge_by_intersections};
+use kaugrenna::{connect_open_boundaries, cut_edge_at_points, cut_edge_by_intersections};
 use kaugrenna::{find_non_simple_wire_divisor, nearest_correction, split_closed_edges};
 use kaugrenna::{BoundaryType, Counts, Cuts, OwnedTables, Rebuilt, Refusal, Stretch, MIDDLE};
 
@@ -196,6 +197,259 @@ fn one_cut() {
     assert_eq!(tables.vertex_floats[28..31], [1.0, 0.0, 3.0]);
     assert_eq!(wires.uses, wire("1+ 5+ 0+ 5- 1-"));
     assert_eq!(wires.lengths[..2], [5, MARK]);
+}
+
+/// So many vertices, edges and uses.
+fn counts(vertices: usize, edges: usize, uses: usize) -> Counts {
+    Counts {
+        vertices,
+        edges,
+        uses,
+    }
+}
+
+/// Cuts an edge at points: parameter, x, y, z of each.
+fn cut_at(shell: &mut Shell, edge: u32, cuts: &[[f64; 4]]) -> Result<Counts, Refusal> {
+    let cuts = Cuts {
+        floats: cuts.as_flattened(),
+        count: cuts.len(),
+    };
+    let (tables, wires) = shell.lend();
+    cut_edge_at_points(tables, wires, cuts, edge)
+}
+
+/// The numbers of a given vertex's row, and its floats.
+const GIVEN_NUMBERS: [u32; 3] = [GIVEN, MARK, MARK];
+fn given(x: f64, y: f64, z: f64) -> [f64; 7] {
+    let mark = f64::from_bits(FLOAT_MARK);
+    [x, y, z, mark, mark, mark, mark]
+}
+
+/// The floats of a span's row.
+fn span(t0: f64, t1: f64) -> [f64; 6] {
+    let mark = f64::from_bits(FLOAT_MARK);
+    [mark, mark, mark, mark, t0, t1]
+}
+
+/// These cells come first, and the marks of the room behind them are kept.
+fn assert_cells(cells: &[u32], first: &[u32]) {
+    let marks = vec![MARK; cells.len() - first.len()];
+    assert_eq!(cells, [first, &marks].concat());
+}
+
+/// The same of floats, to the bit.
+fn assert_floats(cells: &[f64], first: &[f64]) {
+    let marks = vec![FLOAT_MARK; cells.len() - first.len()];
+    assert_eq!(bits(cells), [bits(first), marks].concat());
+}
+
+#[test]
+fn two_cuts_in_wires_of_both_directions() {
+    let mut shell = Shell::pipe(&["1+ 0+ 1-", "", "2+ 3-", "1- 1+"], 8);
+    shell.prepare(1, 2);
+    // No uv points of a span: they are kept, and no other piece gets them.
+    shell.tables.edge_floats[6..10].fill(0.25);
+    let cuts = [[2.0, 1.0, 0.0, 3.0], [5.0, -1.0, 0.5, 3.5]];
+    assert_eq!(cut_at(&mut shell, 1, &cuts), Ok(counts(6, 7, 15)));
+    let Shell { tables, wires } = shell;
+    let edges = [
+        [0, 2, 0, 7, 0],
+        [0, 4, 0, 7, 2],
+        [1, 0, 0, 7, 0],
+        [2, 3, 0, 7, 0],
+        [3, 2, 0, 7, 0],
+        [4, 5, 0, 7, 2],
+        [5, 1, 0, 7, 2],
+    ];
+    assert_cells(&tables.edge_numbers, &edges.concat());
+    let mut ranges = vec![span(0.0, 8.0); 5];
+    ranges[1] = [0.25, 0.25, 0.25, 0.25, 0.0, 2.0];
+    ranges.extend([span(2.0, 5.0), span(5.0, 8.0)]);
+    assert_floats(&tables.edge_floats, &ranges.concat());
+    assert_cells(&tables.vertex_numbers, &[GIVEN_NUMBERS; 6].concat());
+    let points = [
+        given(1.0, 0.0, 0.0),
+        given(-1.0, 0.0, 0.0),
+        given(1.0, 0.0, 4.0),
+        given(-1.0, 0.0, 4.0),
+        given(1.0, 0.0, 3.0),
+        given(-1.0, 0.5, 3.5),
+    ];
+    assert_floats(&tables.vertex_floats, &points.concat());
+    let chained = ["1+ 5+ 6+ 0+ 6- 5- 1-", "", "2+ 3-", "6- 5- 1- 1+ 5+ 6+"];
+    assert_cells(&wires.uses, &chained.map(wire).concat());
+    assert_cells(&wires.lengths, &[7, 0, 2, 6]);
+}
+
+#[test]
+fn three_cuts_of_a_closed_edge() {
+    let cuts = [2.0, 4.0, 6.0].map(|t| [t, t, 1.0, -t]);
+    for (before, after) in [("0+", "0+ 1+ 2+ 3+"), ("0-", "3- 2- 1- 0-")] {
+        let mut shell = Shell::new(&[[0.5, 0.25, 0.0]], &[[0, 0]], &[before], 3);
+        shell.prepare(0, 1);
+        assert_eq!(cut_at(&mut shell, 0, &cuts), Ok(counts(4, 4, 4)));
+        let Shell { tables, wires } = shell;
+        let ends = [[0, 1], [1, 2], [2, 3], [3, 0]];
+        let edges = ends.map(|[front, back]| [front, back, 0, 7, 1]);
+        assert_cells(&tables.edge_numbers, &edges.concat());
+        let ranges = [0.0, 2.0, 4.0, 6.0].map(|t| span(t, t + 2.0));
+        assert_floats(&tables.edge_floats, &ranges.concat());
+        assert_cells(&tables.vertex_numbers, &[GIVEN_NUMBERS; 4].concat());
+        let new = cuts.map(|[_, x, y, z]| given(x, y, z));
+        let points = [&[given(0.5, 0.25, 0.0)], &new[..]].concat();
+        assert_floats(&tables.vertex_floats, &points.concat());
+        assert_cells(&wires.uses, &wire(after));
+        assert_cells(&wires.lengths, &[4]);
+    }
+}
+
+/// K9's edges with bevels, of which edge 0 is a seam, and a closed edge 5.
+fn mixed(wires: &[&str], room: usize) -> Shell {
+    let ends = [&PIPE[..], &[[2, 2]]].concat();
+    let mut shell = Shell::new(&[[0.5; 3]; 4], &ends, wires, room);
+    for (edge, preparation) in [0, 1, 2, 1, 2, 1].into_iter().enumerate() {
+        shell.prepare(edge, preparation);
+    }
+    shell.tables.edge_numbers[2] = SEAM;
+    let seam = [0.25, 0.5, -0.75, 1.0, -1.0, 8.0];
+    shell.tables.edge_floats[..6].copy_from_slice(&seam);
+    shell
+}
+
+#[test]
+fn pieces_of_a_seam() {
+    let mut shell = mixed(&["0- 0+"], 4);
+    let before = shell.tables.clone();
+    let cuts = [[0.0; 4], [1.5; 4]];
+    assert_eq!(cut_at(&mut shell, 0, &cuts), Ok(counts(6, 8, 6)));
+    let Shell { tables, wires } = shell;
+    assert_eq!(tables.edge_numbers[..5], [0, 4, 1, 7, 0]);
+    assert_eq!(tables.edge_numbers[5..30], before.edge_numbers[5..30]);
+    let new = [[4, 5, 1, 7, 0], [5, 2, 1, 7, 0]].concat();
+    assert_cells(&tables.edge_numbers[30..], &new);
+    let ranges = [[-1.0, 0.0], [0.0, 1.5], [1.5, 8.0]];
+    let [first, second, third] = ranges.map(|[t0, t1]| [0.25, 0.5, -0.75, 1.0, t0, t1]);
+    assert_eq!(tables.edge_floats[..6], first);
+    assert_eq!(
+        bits(&tables.edge_floats[6..36]),
+        bits(&before.edge_floats[6..36])
+    );
+    assert_floats(&tables.edge_floats[36..], &[second, third].concat());
+    assert_cells(&wires.uses, &wire("7- 6- 0- 0+ 6+ 7+"));
+}
+
+#[test]
+fn one_cut_at_a_point_is_the_one_cut() {
+    for edge in 0..6 {
+        for t in [0.0, -0.0, 1.0 / 3.0, 8.0] {
+            let mut shell = mixed(&["5+ 0+ 5- 1-", "", "0- 3+ 2+ 4+"], 4);
+            let mut other = shell.clone();
+            let cut = [t, 0.25, -0.0, 1.0e15];
+            let cuts = Cuts {
+                floats: &cut,
+                count: 1,
+            };
+            let (tables, wires) = other.lend();
+            let one = cut_edge_by_intersections(tables, wires, cuts, edge);
+            assert!(one.is_ok());
+            assert_eq!(cut_at(&mut shell, edge, &[cut]), one);
+            assert_eq!(shell.cells(), other.cells());
+        }
+    }
+}
+
+#[test]
+fn no_cut_at_points_changes_nothing() {
+    for edge in 0..6 {
+        let mut shell = mixed(&[PIPE_WIRE, ""], 0);
+        let before = shell.cells();
+        assert_eq!(cut_at(&mut shell, edge, &[]), Ok(counts(4, 6, 6)));
+        assert_eq!(shell.cells(), before);
+    }
+}
+
+#[test]
+fn as_many_cuts_and_uses_as_there_may_be() {
+    let most = MAX_CUTS as u32;
+    // Fifteen uses of edge 0, and as many others as fill up the uses.
+    let notation = "0+ 0- ".repeat(7) + "0-" + &" 1+".repeat(MAX_USES - 15 * (MAX_CUTS + 1));
+    let mut shell = Shell::new(&[[0.0; 3]; 2], &[[0, 1]; 2], &[&notation], 15 * MAX_CUTS);
+    // The first cut is at t0 and the last at t1.
+    let parameter = |cut: u32| 8.0 * f64::from(cut) / f64::from(most - 1);
+    let cuts: Vec<_> = (0..most)
+        .map(|cut| [parameter(cut), 1.0, 2.0, cut.into()])
+        .collect();
+    let done = counts(2 + MAX_CUTS, 2 + MAX_CUTS, MAX_USES);
+    assert_eq!(cut_at(&mut shell, 0, &cuts), Ok(done));
+    let Shell { tables, wires } = shell;
+    // Of the new edges 2 to 65 each begins at the vertex of its number.
+    let last = most + 1;
+    let between = (2..last).map(|edge| [edge, edge + 1, 0, 7, 0]);
+    let mut edges = vec![[0, 2, 0, 7, 0], [0, 1, 0, 7, 0]];
+    edges.extend(between.chain([[last, 1, 0, 7, 0]]));
+    assert_cells(&tables.edge_numbers, &edges.concat());
+    let between = (1..most).map(|cut| span(parameter(cut - 1), parameter(cut)));
+    let mut ranges = vec![span(0.0, 0.0), span(0.0, 8.0)];
+    ranges.extend(between.chain([span(8.0, 8.0)]));
+    assert_floats(&tables.edge_floats, &ranges.concat());
+    let mut points = vec![given(0.0, 0.0, 0.0); 2];
+    points.extend((0..most).map(|cut| given(1.0, 2.0, cut.into())));
+    assert_floats(&tables.vertex_floats, &points.concat());
+    let chain = [0].into_iter().chain(2..=last);
+    let forward: Vec<_> = chain.map(|edge| 2 * edge).collect();
+    let backwards: Vec<_> = forward.iter().rev().map(|used| used + 1).collect();
+    let both = [&forward[..], &backwards].concat().repeat(7);
+    let others = wire(&"1+ ".repeat(MAX_USES - 15 * (MAX_CUTS + 1)));
+    assert_eq!(wires.uses, [both, backwards, others].concat());
+    assert_cells(&wires.lengths, &[MAX_USES as u32]);
+}
+
+/// Cuts an edge at points and takes over the counts, as a host does.
+fn cut_on(shell: &mut Shell, edge: u32, cuts: &[[f64; 4]]) {
+    let counts = cut_at(shell, edge, cuts).unwrap();
+    shell.tables.vertices = counts.vertices;
+    shell.tables.edges = counts.edges;
+}
+
+#[test]
+fn pieces_are_cut_again() {
+    let mut shell = Shell::pipe(&["1+ 2-", "1-"], 10);
+    let at = |t| [t, t, 0.0, 0.0];
+    cut_on(&mut shell, 1, &[2.0, 5.0].map(at));
+    cut_on(&mut shell, 5, &[3.0, 4.0, 5.0].map(at));
+    let Shell { tables, wires } = shell;
+    let ends = [[4, 6], [5, 1], [6, 7], [7, 8], [8, 5]];
+    let edges = ends.map(|[front, back]| [front, back, 0, 7, 0]);
+    assert_cells(&tables.edge_numbers[25..], &edges.concat());
+    let ranges = [[2.0, 3.0], [5.0, 8.0], [3.0, 4.0], [4.0, 5.0], [5.0, 5.0]];
+    let ranges = ranges.map(|[t0, t1]| span(t0, t1));
+    assert_floats(&tables.edge_floats[30..], &ranges.concat());
+    let points = [2.0, 5.0, 3.0, 4.0, 5.0].map(|t| given(t, 0.0, 0.0));
+    assert_floats(&tables.vertex_floats[28..], &points.concat());
+    let chained = ["1+ 5+ 7+ 8+ 9+ 6+ 2-", "6- 9- 8- 7- 5- 1-"];
+    assert_cells(&wires.uses, &chained.map(wire).concat());
+    assert_cells(&wires.lengths, &[7, 6]);
+}
+
+#[test]
+fn a_split_after_cuts_at_points() {
+    // A half of the upper rim of K10, which its wire uses once.
+    let mut shell = Shell::pipe(&[PIPE_WIRE], 3);
+    cut_on(&mut shell, 3, &[[2.0; 4], [6.0; 4]]);
+    assert_cells(&shell.wires.uses, &wire("1+ 2+ 0+ 3+ 5+ 6+ 4+ 0-"));
+    let mut split = Split::new(shell, &[3, 1]);
+    split.uses = vec![MARK; 10];
+    split.lengths = vec![MARK; 10];
+    let rebuilt = Rebuilt {
+        wires: 2,
+        uses: 10,
+        edges: 8,
+    };
+    assert_eq!(split.ask(), Ok(rebuilt));
+    // K10's wires, with the chain for the use of the edge that was cut.
+    let built = ["0+ 3+ 5+ 6+ 7+ 2+", "1+ 7- 4+ 0-"];
+    assert_eq!(split.uses, built.map(wire).concat());
+    assert_cells(&split.lengths, &[6, 4]);
 }
 
 #[test]

@@ -22,7 +22,7 @@ use Rattle.split_closed_edges.specs.Pass.{split_closed_edges}
 use Rattle.split_closed_edges.specs.Contract.{outcome_of}
 use Rattle.split_closed_edges.proofs.Reading.{pass_read}
 use Rattle.split_closed_edges.proofs.Preparations.{pass_prepared}
-use Rattle.one_cut.specs.cuts.Cuts.{cut_at}
+use Rattle.edge_cuts.specs.cuts.Cuts.{cut_at}
 use Rattle.one_cut.specs.Cut.{added_at, cut_once}
 use Rattle.one_cut.specs.Contract.{cut_outcome}
 use Rattle.one_cut.proofs.Preparations.{cut_prepared}

@@ -16,9 +16,10 @@ use Rattle.cutting.specs.mending.Replace.{replace_use, replace_edges, replace_wi
 use Rattle.split_closed_edges.specs.add_edges.Add.{kept_edges, new_edges, new_vertices, added_to}
 use Rattle.split_closed_edges.specs.Pass.{split_closed_edges}
 use Rattle.split_closed_edges.specs.Contract.{outcome_of}
-use Rattle.one_cut.specs.cuts.Cuts.{cut_cause, cuts_cause}
+use Rattle.edge_cuts.specs.cuts.Cuts.{cut_cause, cuts_cause}
 use Rattle.one_cut.specs.Cut.{added_at, cut_once}
-use Rattle.one_cut.specs.Contract.{one_cut_cause, once_outcome, cut_outcome}
+use Rattle.edge_cuts.specs.Contract.{edge_cuts_cause}
+use Rattle.one_cut.specs.Contract.{once_outcome, cut_outcome}
 use Rattle.cases.specs.Cases.{given_numbers, given_floats, rim_prepared, rim_left, rim_cut_prepared}
 
 -- "Every call that cuts an edge gives each piece the preparation of the old one": a double bevel in the pass
@@ -34,7 +35,7 @@ abbrev pub cut_left : Outcome
 cut_left = rim_left 1 four64 given_numbers (given_floats zero64 zero64 zero64) (0 ∷ 2 ∷ [])
 
 pub cut_keeps_bevel : cut_outcome (rim_prepared 1 (0 ∷ [])) 0 cut_at_four 1 ≡ cut_left
-unfolding add mul div neg lt le round of_bits lower_of lowest_of float_cause range_cause parameter_cause curve_cause edge_cause point_cause vertex_cause edge_row_cause vertex_row_cause edges_cause vertices_cause uses_cause wires_cause put store_from rows curve_of edge_of vertex_of edge_number_layout edge_float_layout vertex_number_layout vertex_float_layout total wires_of uses_of lengths_of load store_shell counts_of vertices_fit edges_fit uses_fit has_room input_cause replace_use replace_edges replace_wires halves_of cut_cause cuts_cause added_at cut_once one_cut_cause once_outcome cut_outcome
+unfolding add mul div neg lt le round of_bits lower_of lowest_of float_cause range_cause parameter_cause curve_cause edge_cause point_cause vertex_cause edge_row_cause vertex_row_cause edges_cause vertices_cause uses_cause wires_cause put store_from rows curve_of edge_of vertex_of edge_number_layout edge_float_layout vertex_number_layout vertex_float_layout total wires_of uses_of lengths_of load store_shell counts_of vertices_fit edges_fit uses_fit has_room input_cause replace_use replace_edges replace_wires halves_of cut_cause cuts_cause added_at cut_once edge_cuts_cause once_outcome cut_outcome
 cut_keeps_bevel = refl
 
 -- "any other earns 1"

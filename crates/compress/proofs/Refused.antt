@@ -4,7 +4,7 @@ use mathlib.Core.Logic.{inl, inr}
 use Rattle.std.specs.Result.{IsErrAnd}
 use Rattle.std.proofs.lemmas.Result.{err_from_is_err_and}
 use Rattle.compress.specs.declared.Refusal.{Refusal}
-use Rattle.compress.specs.declared.Refusal.TheVariants.{Malformed, VertexNumber, EdgeNumber, NotSized, OutOfRange, NoRoom, PendingVertex, PastEnd, OddDivisor, RepeatedVertex, DeadEnd, TooManyUses, EmptyList, SeveralCuts, EmptyOpenWire, EighthsOutOfRange}
+use Rattle.compress.specs.declared.Refusal.TheVariants.{Malformed, VertexNumber, EdgeNumber, NotSized, OutOfRange, NoRoom, PendingVertex, PastEnd, OddDivisor, RepeatedVertex, DeadEnd, TooManyUses, EmptyList, SeveralCuts, EmptyOpenWire, TooManyCuts, NotRising, EighthsOutOfRange}
 use Rattle.compress.specs.Refusals.{refusal_number, IsCause, cause_of}
 use Rattle.compress.specs.Said.{Said, result, none, refused, cause_or, refused_or}
 
@@ -25,6 +25,8 @@ number_above TooManyUses = (11, refl)
 number_above EmptyList = (12, refl)
 number_above SeveralCuts = (13, refl)
 number_above EmptyOpenWire = (14, refl)
+number_above TooManyCuts = (15, refl)
+number_above NotRising = (16, refl)
 number_above EighthsOutOfRange = (17, refl)
 
 -- no two refusals have one number
@@ -32,7 +34,7 @@ named : ℕ → Refusal
 named n =
     get_or (Malformed ∷ Malformed ∷ VertexNumber ∷ EdgeNumber ∷ NotSized ∷ OutOfRange ∷ NoRoom ∷ PendingVertex ∷ PastEnd ∷ OddDivisor
     ∷ RepeatedVertex ∷ DeadEnd ∷ TooManyUses ∷ EmptyList ∷ SeveralCuts ∷ EmptyOpenWire
-    ∷ Malformed ∷ Malformed ∷ EighthsOutOfRange ∷ []) n Malformed
+    ∷ TooManyCuts ∷ NotRising ∷ EighthsOutOfRange ∷ []) n Malformed
 
 named_same : (r : Refusal) → named (refusal_number r) ≡ r
 unfolding named
@@ -51,6 +53,8 @@ named_same TooManyUses = refl
 named_same EmptyList = refl
 named_same SeveralCuts = refl
 named_same EmptyOpenWire = refl
+named_same TooManyCuts = refl
+named_same NotRising = refl
 named_same EighthsOutOfRange = refl
 
 pub number_tells : (r s : Refusal) → refusal_number r ≡ refusal_number s → r ≡ s
@@ -60,7 +64,7 @@ number_tells r s e = sym (named_same r) ∙ (ap named e ∙ named_same s)
 abbrev pub rank : Refusal → ℤ
 rank z =
     get_or (pos 1 ∷ pos 2 ∷ pos 3 ∷ pos 4 ∷ pos 5 ∷ pos 6 ∷ pos 7 ∷ pos 8 ∷ pos 9 ∷ pos 10 ∷ pos 11 ∷ pos 12 ∷ pos 13 ∷ pos 14 ∷ pos 15
-    ∷ pos 18 ∷ [])
+    ∷ pos 16 ∷ pos 17 ∷ pos 18 ∷ [])
     (denote.Enum.Declared.tag_of Rattle.compress.specs.contracts.Refusal.the_type z) (pos 0)
 
 pub ranked : (z : Refusal) → rank z ≡ pos (refusal_number z)
@@ -79,6 +83,8 @@ ranked TooManyUses = refl
 ranked EmptyList = refl
 ranked SeveralCuts = refl
 ranked EmptyOpenWire = refl
+ranked TooManyCuts = refl
+ranked NotRising = refl
 ranked EighthsOutOfRange = refl
 
 -- what a check answers is a cause

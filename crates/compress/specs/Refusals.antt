@@ -1,7 +1,7 @@
 -- The numbers of document 01's table, "When a call is turned away", and those that document 02 adds to it. Definitions only.
 use Rattle.std.specs.Prelude.{◌≡◌, ◌⊎◌, ℕ, Result, Ok, Err}
 use Rattle.compress.specs.declared.Refusal.{Refusal}
-use Rattle.compress.specs.declared.Refusal.TheVariants.{Malformed, VertexNumber, EdgeNumber, NotSized, OutOfRange, NoRoom, PendingVertex, PastEnd, OddDivisor, RepeatedVertex, DeadEnd, TooManyUses, EmptyList, SeveralCuts, EmptyOpenWire, EighthsOutOfRange}
+use Rattle.compress.specs.declared.Refusal.TheVariants.{Malformed, VertexNumber, EdgeNumber, NotSized, OutOfRange, NoRoom, PendingVertex, PastEnd, OddDivisor, RepeatedVertex, DeadEnd, TooManyUses, EmptyList, SeveralCuts, EmptyOpenWire, TooManyCuts, NotRising, EighthsOutOfRange}
 
 abbrev pub refusal_number : Refusal → ℕ
 -- a bound on a count is passed by the input, a count or a sum of wire lengths is above what was lent, or a kind or a preparation is unknown
@@ -34,6 +34,10 @@ refusal_number EmptyList = 13
 refusal_number SeveralCuts = 14
 -- an empty open wire in a join
 refusal_number EmptyOpenWire = 15
+-- document 02, A.1: more than 64 cuts
+refusal_number TooManyCuts = 16
+-- document 02, A.1: cuts whose parameters do not rise strictly
+refusal_number NotRising = 17
 -- document 02, A.3: a number of eighths outside 1 to 7
 refusal_number EighthsOutOfRange = 18
 

@@ -163,6 +163,8 @@ pub enum Refusal {
     EmptyList = 13,
     SeveralCuts = 14,
     EmptyOpenWire = 15,
+    TooManyCuts = 16,
+    NotRising = 17,
     EighthsOutOfRange = 18,
 }
 

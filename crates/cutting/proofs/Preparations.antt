@@ -33,11 +33,11 @@ module _ (d : Edge) (s : Slices) (r : Shell) (c : Counts) (j : ℕ) (lt : j < le
       preparation_stored d r.edges s.en j lt (edges_room s.en s.ef (length r.edges) b.1).1
   room_prepared false e p = absurd (refused_never 6 p)
 
-  left_prepared : (result_of s r).said ≡ result c → preparation_at (result_of s r).slices.en j ≡ preparation_number (edge_in d r j).preparation
+  pub left_prepared : (result_of s r).said ≡ result c → preparation_at (result_of s r).slices.en j ≡ preparation_number (edge_in d r j).preparation
   left_prepared p = room_prepared (has_room s (counts_of r)) refl p
 
 -- a result counts the edges of the shell that was stored
-edges_told : (s : Slices) (r : Shell) (c : Counts) → (result_of s r).said ≡ result c → c.edges ≡ length r.edges
+pub edges_told : (s : Slices) (r : Shell) (c : Counts) → (result_of s r).said ≡ result c → c.edges ≡ length r.edges
 unfolding counts_of
 edges_told s r c p = by (has_room s (counts_of r)) p
   where
@@ -46,7 +46,7 @@ edges_told s r c p = by (has_room s (counts_of r)) p
     by false q = absurd (refused_never 6 q)
 
 -- the numbers that were lent have those of the shell that was loaded
-lent_prepared : (d : Edge) (l : Lent) → input_cause l ≡ 0 → (i : ℕ) → i < l.edges → preparation_number (edge_in d (load l) i).preparation ≡ preparation_at l.slices.en i
+pub lent_prepared : (d : Edge) (l : Lent) → input_cause l ≡ 0 → (i : ℕ) → i < l.edges → preparation_number (edge_in d (load l) i).preparation ≡ preparation_at l.slices.en i
 lent_prepared d l z i lt =
     let A = accepted l.slices.vn l.slices.vf l.slices.en l.slices.ef l.slices.us l.slices.ls l.vertices l.edges l.wires z in
     ap (λ (e : Edge). preparation_number e.preparation) (sym (edge_loaded l d i lt)) ∙ preparation_read l.slices.en l.slices.ef i (A.edges.known i lt)

@@ -6,7 +6,8 @@ use Rattle.split.specs.declared.Boundaries.{Boundaries}
 use Rattle.split.specs.Contract.{split_outcome}
 use Rattle.split.specs.split_causes.Causes.{Buffers, LentSplit}
 use Rattle.split.proofs.Demand.{split_keeps, split_leaves}
-use Rattle.healing.specs.Host.{code_of, read_off, Told, HostBoundaries, HostKeeps}
+use Rattle.codes.specs.Told.{code_of, read_off, Told}
+use Rattle.healing.specs.Host.{HostBoundaries, HostKeeps}
 
 -- places hold what they held where the code is not 0
 places_kept : {A : Type 0} {s : Said A} {before after : A} {r : ℤ} → Told s before after r → r ≢ pos 0 → after ≡ before

@@ -8,7 +8,8 @@ use Rattle.compress.specs.Said.{said_of}
 use Rattle.compress.specs.Shell.{Slices}
 use Rattle.compress.proofs.Refused.{refused_never}
 use Rattle.split_closed_edges.specs.add_edges.Steps.{VerticesPass}
-use Rattle.healing.specs.Host.{read_off, Told, HostVerticesPass}
+use Rattle.codes.specs.Told.{read_off, Told}
+use Rattle.healing.specs.Host.{HostVerticesPass}
 
 -- n, vn, vf and d: the counts told, the vertices and the code, as the steps of the export name them
 pub host_parameters : (answer : Result Counts Refusal) {before n : Counts} {d : ℤ} {vn : List ℕ} {vf : List Float} → Told (said_of (λ n. n) answer) before n d

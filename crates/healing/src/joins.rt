@@ -2,7 +2,6 @@
 ghost use Rattle.join.specs.Contract.{LentJoin, join_outcome};
 ghost use Rattle.healing.specs.Host.{HostJoin};
 
-use crate::codes;
 use rows::lent::{Stretch, WiresMut};
 use rows::tables::Table;
 

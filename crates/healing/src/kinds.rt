@@ -1,8 +1,8 @@
 // The calls for hosts on the kind of a wire: the kind of one, and the sorting of wires into open and closed ones.
 ghost use Rattle.wire_kinds.specs.Kinds.{sort_wires};
-ghost use Rattle.healing.specs.Host.{Told, HostSort, uv_of, host_kind};
+ghost use Rattle.codes.specs.Told.{Told, uv_of};
+ghost use Rattle.healing.specs.Host.{HostSort, host_kind};
 
-use crate::codes;
 use compress::Uv;
 use wire_kinds::LentEnds;
 

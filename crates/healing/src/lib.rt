@@ -2,7 +2,6 @@
 // In C each slice, each count, each float of a point and each place for a result is a parameter of its own: here they become tables, wires and points.
 #![tactic(auto)]
 
-mod codes;
 mod cut;
 mod joins;
 mod kinds;

@@ -1,8 +1,6 @@
 // The call for hosts that tells where an edge would be cut.
 ghost use Rattle.healing.specs.Host.{HostCutParameter};
 
-use crate::codes;
-
 // The parameter k eighths of the way from t0 to t1, at which the closed-edge pass cuts. 0: done, and `t_out` holds it, never outside t0 to t1.
 // Else the number of the refusal, and `t_out` is not changed.
 #[unsafe(no_mangle)]

@@ -1,8 +1,7 @@
 // The calls for hosts that take periods: unwrapping and the nearest copy. A period is lent as a kind, 0 absent and 1 given, and a number.
 ghost use Rattle.periodic.specs.host_numbers.Numbers.{host_mindiff, host_copy};
-ghost use Rattle.healing.specs.Host.{Told, uv_of};
+ghost use Rattle.codes.specs.Told.{Told, uv_of};
 
-use crate::codes;
 use compress::Uv;
 use periodic::host_numbers::LentPeriod;
 

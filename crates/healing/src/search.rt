@@ -3,9 +3,8 @@ ghost use Rattle.compress.specs.Shell.{Lent};
 ghost use Rattle.correction.specs.declared.nearest.Ends.{Ends};
 ghost use Rattle.correction.specs.Correction.{LentStretches, nearest_correction};
 ghost use Rattle.non_simple.specs.Search.{find_non_simple};
-ghost use Rattle.healing.specs.Host.{Told};
+ghost use Rattle.codes.specs.Told.{Told};
 
-use crate::codes;
 use rows::lent::{Stretch, Wires};
 use rows::tables::{Table, Tables};
 

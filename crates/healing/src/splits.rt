@@ -4,7 +4,6 @@ ghost use Rattle.split.specs.split_causes.Causes.{Buffers, LentSplit};
 ghost use Rattle.split.specs.Contract.{split_outcome};
 ghost use Rattle.healing.specs.Host.{HostBoundaries, HostKeeps};
 
-use crate::codes;
 use rows::lent::Wires;
 use rows::tables::TableMut;
 use split::seams::Divisor;

@@ -23,12 +23,12 @@ use Rattle.cutting.specs.Keeps.{edge_in, wire_in, UsesKnown, Keeps}
 use Rattle.cutting.specs.mending.Replace.{replaced_by, replace_use}
 use Rattle.cutting.specs.Contract.{lent_of}
 use Rattle.cutting.proofs.Keeping.{Halved, keeps, edges_replaced, wire_replaced, lent_known}
-use Rattle.one_cut.specs.declared.cuts.Cut.{Cut}
+use Rattle.edge_cuts.specs.declared.cuts.Cut.{Cut}
 use Rattle.one_cut.specs.Cut.{added_at, cut_once}
-use Rattle.one_cut.specs.Contract.{one_cut_cause}
+use Rattle.edge_cuts.specs.Contract.{edge_cuts_cause}
 use Rattle.one_cut.specs.Pieces.{pieces_of}
 use Rattle.compress.proofs.Cells.{all_alike}
-use Rattle.one_cut.proofs.Outcome.{call_checked}
+use Rattle.edge_cuts.proofs.Outcome.{call_checked}
 
 -- the map names edge i alone
 pub added_here : (n i m : ℕ) → i < n → get_or (added_at n i m) i None ≡ Some m
@@ -147,12 +147,12 @@ module _ (d : Edge) (s : Shell) (i : ℕ) (e : Edge) (c : Cut) (lt : i < length 
 
 -- ---- of the call: what was lent has no cause
 module _ (d : Edge) (vn : List ℕ) (vf : List Float) (en : List ℕ) (ef : List Float) (us ls : List ℕ) (v e w i : ℕ) (cs : List Float) (m : ℕ)
-    (z : one_cut_cause (lent_of vn vf en ef us ls v e w) i cs m ≡ 0) where
+    (z : edge_cuts_cause (lent_of vn vf en ef us ls v e w) i cs m ≡ 0) where
   abbrev lent : Shell
   lent = load (lent_of vn vf en ef us ls v e w)
 
   lies : i < e
-  lies = (call_checked vn vf en ef us ls v e w i cs m 0 (sym z) refl).1
+  lies = (call_checked (lent_of vn vf en ef us ls v e w) i cs m z).1
 
   below : i < length lent.edges
   unfolding load
@@ -162,7 +162,7 @@ module _ (d : Edge) (vn : List ℕ) (vf : List Float) (en : List ℕ) (ef : List
   read = edge_loaded (lent_of vn vf en ef us ls v e w) d i lies
 
   pub call_keeps : (c : Cut) → Keeps d lent (cut_once lent i (edge_at en ef i) c)
-  call_keeps c = cut_keeps d lent i (edge_at en ef i) c below read (lent_known vn vf en ef us ls v e w (call_checked vn vf en ef us ls v e w i cs m 0 (sym z) refl).0)
+  call_keeps c = cut_keeps d lent i (edge_at en ef i) c below read (lent_known vn vf en ef us ls v e w (call_checked (lent_of vn vf en ef us ls v e w) i cs m z).0)
 
   pub call_pieces : (c : Cut) (k : ℕ) → wire_in (cut_once lent i (edge_at en ef i) c) k ≡ replaced (pieces_of i (length lent.edges)) (wire_in lent k)
   call_pieces c k = cut_pieces d lent i (edge_at en ef i) c below read k

@@ -1,5 +1,6 @@
 -- The laws of one cut.
-pub mod Outcome
 pub mod Laws
+pub mod Once
+pub mod Outcome
 pub mod Preparations
 pub mod Reading

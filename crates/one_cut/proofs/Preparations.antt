@@ -1,5 +1,5 @@
 -- One cut keeps every preparation, and both pieces have their mother's; no cut changes nothing. Assumes nothing.
-use mathlib.Core.Path.{◌≡◌, refl, sym, ◌∙◌}
+use mathlib.Core.Path.{◌≡◌, refl, ◌∙◌}
 use mathlib.Core.List.{List, [], ◌∷◌, ◌++◌}
 use Prim.Native.Nat.{ℕ, ◌+◌, ◌<◌}
 use native.Mathlib.Omega.{arith}
@@ -19,12 +19,13 @@ use Rattle.cutting.specs.Contract.{Outcome, input_cause}
 use Rattle.cutting.specs.Keeps.{PreparationsKept}
 use Rattle.cutting.proofs.Preparations.{preparations_kept}
 use Rattle.cutting.proofs.Reading.{cause_none, cause_passed}
-use Rattle.one_cut.specs.declared.cuts.Cut.{Cut}
-use Rattle.one_cut.specs.cuts.Cuts.{cut_at}
+use Rattle.edge_cuts.specs.declared.cuts.Cut.{Cut}
+use Rattle.edge_cuts.specs.cuts.Cuts.{cut_at}
 use Rattle.one_cut.specs.Cut.{added_at, cut_once}
-use Rattle.one_cut.specs.Contract.{one_cut_cause, once_outcome, cut_by, cut_outcome}
+use Rattle.edge_cuts.specs.Contract.{edge_cuts_cause}
+use Rattle.one_cut.specs.Contract.{once_outcome, cut_by, cut_outcome}
 use Rattle.one_cut.proofs.Laws.{added_here, named_here, halved}
-use Rattle.one_cut.proofs.Outcome.{call_checked}
+use Rattle.edge_cuts.proofs.Outcome.{call_checked}
 
 module _ (l : Lent) (i : ℕ) (c : Counts) where
   once_prepared : input_cause l ≡ 0 → i < l.edges → (k : Cut) → (once_outcome l i k).said ≡ result c
@@ -50,13 +51,13 @@ module _ (l : Lent) (i : ℕ) (c : Counts) where
 
   -- a call that leaves o, as its contract says, and tells a result
   module _ (cs : List Float) (n : ℕ) (o : Outcome) (is : o ≡ cut_outcome l i cs n) (p : o.said ≡ result c) where
-    no_cause : one_cut_cause l i cs n ≡ 0
+    no_cause : edge_cuts_cause l i cs n ≡ 0
     unfolding cut_outcome
-    no_cause = cause_none (one_cut_cause l i cs n) l.slices (cut_by (rows (cut_at cs) 0 n) l i) c (rw is at p)
+    no_cause = cause_none (edge_cuts_cause l i cs n) l.slices (cut_by (rows (cut_at cs) 0 n) l i) c (rw is at p)
 
     by_cuts : o ≡ cut_by (rows (cut_at cs) 0 n) l i
     unfolding cut_outcome
-    by_cuts = is ∙ cause_passed (one_cut_cause l i cs n) l.slices (cut_by (rows (cut_at cs) 0 n) l i) no_cause
+    by_cuts = is ∙ cause_passed (edge_cuts_cause l i cs n) l.slices (cut_by (rows (cut_at cs) 0 n) l i) no_cause
 
     -- "No cut: nothing changes."
     pub none_kept : n ≡ 0 → o.slices ≡ l.slices
@@ -68,5 +69,5 @@ module _ (l : Lent) (i : ℕ) (c : Counts) where
     pub cut_prepared : n ≡ 1 → PreparationsKept (added_at l.edges i l.edges) l.edges c.edges l.slices.en o.slices.en
     cut_prepared e =
         let q : rows (cut_at cs) 0 n ≡ cut_at cs 0 ∷ [] = rows_first (cut_at cs) 0 n 0 e ∙ rw (rows_none (cut_at cs) 1) in
-        let known = call_checked l.slices.vn l.slices.vf l.slices.en l.slices.ef l.slices.us l.slices.ls l.vertices l.edges l.wires i cs n 0 (sym no_cause) refl in
+        let known = call_checked l i cs n no_cause in
         rw (by_cuts, q) (once_prepared known.0 known.1 (cut_at cs 0) (rw (by_cuts, q) at p))

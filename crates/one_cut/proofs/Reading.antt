@@ -1,6 +1,6 @@
 -- After one cut the slices with the counts told hold the shell that the cut makes; after no cut, the shell that was lent.
 -- Assumes nothing.
-use mathlib.Core.Path.{◌≡◌, refl, sym, ◌∙◌}
+use mathlib.Core.Path.{◌≡◌, ◌∙◌}
 use mathlib.Core.List.{List, [], ◌∷◌}
 use Prim.Native.Nat.{ℕ, ◌≤◌, ◌<◌}
 use native.Mathlib.Omega.{arith}
@@ -15,11 +15,12 @@ use Rattle.compress.proofs.Layouts.{length_rows, rows_none, rows_first}
 use Rattle.compress.proofs.Refused.{refused_never, result_told}
 use Rattle.cutting.specs.Contract.{Outcome, next_lent, input_cause}
 use Rattle.cutting.proofs.Reading.{result_read, cause_none, cause_passed, wires_kept}
-use Rattle.one_cut.specs.declared.cuts.Cut.{Cut}
-use Rattle.one_cut.specs.cuts.Cuts.{cut_at}
+use Rattle.edge_cuts.specs.declared.cuts.Cut.{Cut}
+use Rattle.edge_cuts.specs.cuts.Cuts.{cut_at}
 use Rattle.one_cut.specs.Cut.{cut_once}
-use Rattle.one_cut.specs.Contract.{one_cut_cause, once_outcome, cut_by, cut_outcome}
-use Rattle.one_cut.proofs.Outcome.{call_checked}
+use Rattle.edge_cuts.specs.Contract.{edge_cuts_cause}
+use Rattle.one_cut.specs.Contract.{once_outcome, cut_by, cut_outcome}
+use Rattle.edge_cuts.proofs.Outcome.{call_checked}
 
 -- the shell after no cut, and after one
 abbrev cut_shell : List Cut → Lent → ℕ → Shell
@@ -47,9 +48,9 @@ module _ (l : Lent) (i : ℕ) (c : Counts) where
   unfolding cut_outcome
   any_read cs n p =
       let ks = rows (cut_at cs) 0 n in
-      let z = cause_none (one_cut_cause l i cs n) l.slices (cut_by ks l i) c p in
-      let q = cause_passed (one_cut_cause l i cs n) l.slices (cut_by ks l i) z in
-      let known = call_checked l.slices.vn l.slices.vf l.slices.en l.slices.ef l.slices.us l.slices.ls l.vertices l.edges l.wires i cs n 0 (sym z) refl in
+      let z = cause_none (edge_cuts_cause l i cs n) l.slices (cut_by ks l i) c p in
+      let q = cause_passed (edge_cuts_cause l i cs n) l.slices (cut_by ks l i) z in
+      let known = call_checked l i cs n z in
       let r = by_read known.0 ks (rw q at p) in
       (r.0, rw q r.1, known.1)
 

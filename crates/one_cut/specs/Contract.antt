@@ -1,28 +1,14 @@
 -- The contract of the call `cut_edge_by_intersections`: one answer and one content of every lent slice for each input. Definitions only.
 use Rattle.std.specs.Prelude.{List, [], ◌∷◌, ℕ, Float}
-use Rattle.compress.specs.declared.Curve.{Curve}
 use Rattle.compress.specs.Layout.{rows}
-use Rattle.compress.specs.Records.{first_of, last_of}
 use Rattle.compress.specs.Rows.{edge_at}
 use Rattle.compress.specs.Said.{result, cause_or}
 use Rattle.compress.specs.Shell.{Lent, load, counts_of}
-use Rattle.checks.specs.Causes.{lower_of, edge_number_cause}
-use Rattle.cutting.specs.Contract.{Outcome, input_cause, turned_away, result_of}
-use Rattle.one_cut.specs.declared.cuts.Cut.{Cut}
-use Rattle.one_cut.specs.cuts.Cuts.{cut_at, cuts_cause}
+use Rattle.cutting.specs.Contract.{Outcome, turned_away, result_of}
+use Rattle.edge_cuts.specs.declared.cuts.Cut.{Cut}
+use Rattle.edge_cuts.specs.cuts.Cuts.{cut_at}
+use Rattle.edge_cuts.specs.Contract.{edge_cuts_cause}
 use Rattle.one_cut.specs.Cut.{cut_once}
-
--- ---- causes
-
--- 1 to 5, over all that was lent: the shell, the edge number i, and n cuts. (Where there is no edge i, 3 is below all that its curve could earn.)
-abbrev pub curve_at : Lent → ℕ → Curve
-curve_at l i = (edge_at l.slices.en l.slices.ef i).curve
-
-unfoldable pub one_cut_cause : Lent → ℕ → List Float → ℕ → ℕ
-one_cut_cause l i cs n =
-    lower_of (input_cause l) (lower_of (edge_number_cause l.edges i) (cuts_cause (first_of (curve_at l i)) (last_of (curve_at l i)) cs n))
-
--- ---- the call
 
 -- "One cut at t, with its given point", of edge i
 unfoldable pub once_outcome : Lent → ℕ → Cut → Outcome
@@ -35,4 +21,4 @@ cut_by (c ∷ []) l i = once_outcome l i c
 cut_by (c ∷ d ∷ cs) l i = turned_away l.slices 14
 
 unfoldable pub cut_outcome : Lent → ℕ → List Float → ℕ → Outcome
-cut_outcome l i cs n = cause_or (one_cut_cause l i cs n) (turned_away l.slices) (cut_by (rows (cut_at cs) 0 n) l i)
+cut_outcome l i cs n = cause_or (edge_cuts_cause l i cs n) (turned_away l.slices) (cut_by (rows (cut_at cs) 0 n) l i)

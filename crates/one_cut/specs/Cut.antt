@@ -5,7 +5,7 @@ use Rattle.compress.specs.Points.{given}
 use Rattle.compress.specs.Shell.{Shell}
 use Rattle.cutting.specs.cut_edge.Cut.{halves_of}
 use Rattle.cutting.specs.mending.Replace.{replace_wires}
-use Rattle.one_cut.specs.declared.cuts.Cut.{Cut}
+use Rattle.edge_cuts.specs.declared.cuts.Cut.{Cut}
 
 -- the map of the closed-edge pass where of n edges just edge i is cut, and m is cut off it
 unfoldable pub added_at : ℕ → ℕ → ℕ → List (Option ℕ)

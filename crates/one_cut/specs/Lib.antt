@@ -2,6 +2,4 @@
 pub mod Cut
 pub mod Pieces
 pub mod Contract
-pub mod Steps
 pub mod Examples
-pub mod cuts

@@ -22,7 +22,7 @@ use stored::{Damaged, Reader};
 
 // Replays the call with this number. A list with any other number is damaged.
 // The number is matched here, since each arm reads another record. The names in `replay_tally` are in this order: an enum of the calls
-// with TryFrom and Display would be four lists of ten in place of the two. No table of functions: none may take a `Reader`, which holds a reference.
+// with TryFrom and Display would be four lists of eleven in place of the two. No table of functions: none may take a `Reader`, which holds a reference.
 fn replay(list: &mut Reader<'_>, number: u64) -> Result<(), Damaged>
     ensures compares { Compares list.old list.new }
 {
@@ -37,6 +37,7 @@ fn replay(list: &mut Reader<'_>, number: u64) -> Result<(), Damaged>
         8 => replay_cut::replay_cut(list),
         9 => replay_join::replay_join(list),
         10 => replay_split::replay_split(list),
+        11 => replay_cut::replay_cuts(list),
         _ => Err(Damaged),
     }
 }

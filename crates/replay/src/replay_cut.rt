@@ -1,8 +1,8 @@
-// Replays one stored call of cut_edge_by_intersections.
+// Replays one stored call of those that cut an edge where they are told: cut_edge_by_intersections and cut_edge_at_points.
 
 ghost use Rattle.stored.specs.Compared.{Compares, Keeps};
 
-use one_cut::cuts::EdgeCuts;
+use edge_cuts::cuts::EdgeCuts;
 use records::{Counts, Shell};
 use stored::stored_cells::{Buffer, Cell};
 use stored::stored_records::answers::Answer;
@@ -28,17 +28,32 @@ impl Asked {
     }
 }
 
+// The cuts as they are lent to a call.
+fn lent<'a>(a: Asked, cuts: &'a Buffer<f64>) -> EdgeCuts<'a> {
+    EdgeCuts {
+        edge: a.edge,
+        floats: cuts.cells(),
+        count: a.cuts,
+    }
+}
+
 // Makes the call cut_edge_by_intersections, which writes to the shell.
 fn cut(c: Counts, a: Asked, s: &mut Shell, cuts: &Buffer<f64>) -> Answer<usize, 3> {
     Answer::from(one_cut::cut_edge_by_intersections(
         &mut s.vertices.lent_mut(c.vertices),
         &mut s.edges.lent_mut(c.edges),
         &mut s.wires.lent_mut(a.wires),
-        &EdgeCuts {
-            edge: a.edge,
-            floats: cuts.cells(),
-            count: a.cuts,
-        },
+        &lent(a, cuts),
+    ))
+}
+
+// Makes the call cut_edge_at_points, which writes to the shell.
+fn cut_at_points(c: Counts, a: Asked, s: &mut Shell, cuts: &Buffer<f64>) -> Answer<usize, 3> {
+    Answer::from(several_cuts::cut_edge_at_points(
+        &mut s.vertices.lent_mut(c.vertices),
+        &mut s.edges.lent_mut(c.edges),
+        &mut s.wires.lent_mut(a.wires),
+        &lent(a, cuts),
     ))
 }
 
@@ -51,5 +66,17 @@ pub fn replay_cut(list: &mut Reader<'_>) -> Result<(), Damaged>
     let mut shell = Shell::read(list)?;
     let cuts = Buffer::read(list)?;
     cut(counts, asked, &mut shell, &cuts).compare(list)?;
+    shell.compare(list)
+}
+
+// Replays cut_edge_at_points, whose records are as those of cut_edge_by_intersections.
+pub fn replay_cuts(list: &mut Reader<'_>) -> Result<(), Damaged>
+    ensures compares { Compares list.old list.new }
+{
+    let counts = Counts::read(list)?;
+    let asked = Asked::read(list)?;
+    let mut shell = Shell::read(list)?;
+    let cuts = Buffer::read(list)?;
+    cut_at_points(counts, asked, &mut shell, &cuts).compare(list)?;
     shell.compare(list)
 }

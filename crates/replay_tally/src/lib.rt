@@ -8,7 +8,7 @@ ghost use Rattle.replay_tally.specs.Parts.{altered_after, counted, part_behind};
 use std::{fmt, io};
 
 // How many kinds of calls there are.
-const CALLS: usize = 10;
+const CALLS: usize = 11;
 
 // The names of the calls, in the order of their numbers from 1.
 const NAMES: [&str; CALLS] = [
@@ -22,6 +22,7 @@ const NAMES: [&str; CALLS] = [
     "cut_edge_by_intersections",
     "connect_open_boundaries",
     "split_boundaries_by_divisor",
+    "cut_edge_at_points",
 ];
 
 // How many calls of a name were replayed, and how many of them answered and left the same.

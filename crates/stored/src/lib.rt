@@ -12,10 +12,10 @@ ghost use Rattle.stored.specs.Compared.{Compares, Keeps, Moved, Tested, word_at,
 const STDIN_FILENO: i32 = 0;
 
 // The most cells that a buffer of a call has.
-const MOST: usize = 64;
+const MOST: usize = 512;
 
-// No record has as many words: the longest has 10 buffers with their lengths, 11 numbers, and 4 buffers as the call left them, in all 917.
-const RECORD: usize = 2048;
+// No record has as many words: the longest has 10 buffers with their lengths, 11 numbers, and 4 buffers as the call left them, in all 7,189.
+const RECORD: usize = 7680;
 
 // The list is damaged: it ends within a record, or has a word that cannot stand where it does.
 #[derive(Clone, Copy)]
@@ -93,7 +93,7 @@ impl<'a> Reader<'a> {
 
     // Reads the length of a buffer, which is the most at most.
     fn next_length(&mut self) -> Result<usize, Damaged>
-        ensures bound { IfOk result (λ n. n ≤ 64) }
+        ensures bound { IfOk result (λ n. n ≤ 512) }
         ensures keeps { Keeps self.old self.new }
     {
         let n = self.next()?;

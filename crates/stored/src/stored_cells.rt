@@ -90,7 +90,7 @@ impl Cell for usize {
 impl<T: Cell> Buffer<T> {
     // Reads a buffer of so many cells.
     pub fn fill(list: &mut Reader<'_>, count: usize) -> Result<Buffer<T>, Damaged>
-        requires { count ≤ 64 }
+        requires { count ≤ 512 }
         ensures count_value { IfOk result (λ b. array_vec_len b.items ≡ count) }
         ensures keeps { Keeps list.old list.new }
     {
@@ -112,7 +112,7 @@ impl<T: Cell> Buffer<T> {
     // The cells.
     pub fn cells(&self) -> &[T]
         ensures value { result.now ≡ self.now.items.items }
-        ensures bound { length result.now ≤ 64 }
+        ensures bound { length result.now ≤ 512 }
     {
         self.items.as_slice()
     }
@@ -120,7 +120,7 @@ impl<T: Cell> Buffer<T> {
     // The cells, to be written.
     pub fn cells_mut(&mut self) -> &mut [T]
         ensures value { result.now ≡ self.old.items.items }
-        ensures bound { length result.now ≤ 64 }
+        ensures bound { length result.now ≤ 512 }
     {
         self.items.as_mut_slice()
     }

@@ -62,14 +62,7 @@ impl Input for CutEdge {
     }
 
     fn ask(&self, port: &dyn Port, slices: Vec<Slice<'_>>, out: Slice<'_>) -> i32 {
-        let mut slices = slices.into_iter();
-        let mut next = || slices.next().expect("seven slices");
-        port.cut_edge_by_intersections(Cut {
-            pass: self.lent.pass(&mut next, out.counts()),
-            cuts: next().floats(),
-            edge: self.edge,
-            cut_count: self.cut_count,
-        })
+        port.cut_edge_by_intersections(self.call(slices, out))
     }
 
     fn describe(&self) -> String {
@@ -84,8 +77,20 @@ impl Input for CutEdge {
 }
 
 impl CutEdge {
+    /// The call over the given slices and out places.
+    pub(super) fn call<'a>(&self, slices: Vec<Slice<'a>>, out: Slice<'a>) -> Cut<'a> {
+        let mut slices = slices.into_iter();
+        let mut next = || slices.next().expect("seven slices");
+        Cut {
+            pass: self.lent.pass(&mut next, out.counts()),
+            cuts: next().floats(),
+            edge: self.edge,
+            cut_count: self.cut_count,
+        }
+    }
+
     /// Tables and wires with cuts that are lent in full.
-    fn over(lent: Lent, edge: u32, cuts: &[[f64; CUT]]) -> CutEdge {
+    pub(super) fn over(lent: Lent, edge: u32, cuts: &[[f64; CUT]]) -> CutEdge {
         let cells = cuts.iter().flatten().map(|float| float.to_bits());
         CutEdge {
             lent,
@@ -103,8 +108,7 @@ impl CutEdge {
     }
 
     /// The cuts, as the model takes them.
-    #[cfg_attr(not(rust_at_hand), allow(dead_code))]
-    fn all_cuts(&self) -> Cuts<'_> {
+    pub(super) fn all_cuts(&self) -> Cuts<'_> {
         Cuts {
             cuts: &self.cuts,
             count: self.cut_count,
@@ -113,7 +117,7 @@ impl CutEdge {
     }
 
     /// A call that is done, and the shell that stands there afterwards.
-    fn done(&self, after: &Shell) -> Expected<Self> {
+    pub(super) fn done(&self, after: &Shell) -> Expected<Self> {
         let mut expected = self.clone();
         expected.lent.write(after);
         Expected {
@@ -178,8 +182,8 @@ impl CutEdge {
     }
 }
 
-/// What a shell counts after a cut, or after none.
-fn result_counts(shell: &Shell, edge: u32, cuts: usize) -> [usize; 3] {
+/// What a shell counts after so many cuts.
+pub(super) fn result_counts(shell: &Shell, edge: u32, cuts: usize) -> [usize; 3] {
     let uses = shell.wires.iter().flatten();
     let used = uses.filter(|&&number| number / 2 == edge).count();
     let [vertices, edges, uses] = shell.counts();
@@ -294,8 +298,8 @@ impl Families for CutEdge {
         let shell = self.lent.read();
         let result = match self.cuts.chunks_exact(CUT).take(self.cut_count).next() {
             Some(cut) => {
-                let [t, x, y, z] = [0, 1, 2, 3].map(|cell| f64::from_bits(cut[cell]));
-                healing::cut(&shell, self.edge, t, [x, y, z])
+                let cut = [0, 1, 2, 3].map(|cell| f64::from_bits(cut[cell]));
+                healing::cut(&shell, self.edge, &[cut])
             }
             None => shell,
         };

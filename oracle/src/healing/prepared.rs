@@ -334,6 +334,53 @@ impl Ready for OneCut {
     }
 }
 
+/// One cut, made for each of several from the last to the first.
+pub struct SeveralCuts {
+    one: OneCut,
+    /// A list of one place for each, as the Rust's caller makes it.
+    cuts: Vec<Vec<(f64, Point3)>>,
+    /// How many vertices and edges there were.
+    before: [usize; 2],
+}
+
+impl SeveralCuts {
+    pub fn of(shell: &records::Shell, edge: u32, cuts: &[[f64; 4]]) -> Self {
+        let (more, mut one) = (cuts.len(), OneCut::of(shell, edge, cuts[0]));
+        one.vertices = roomy(one.vertices, more);
+        one.edges = roomy(one.edges, more);
+        one.lines = roomy(one.lines, more);
+        let pieces = vec![shell.edges[edge as usize].preparation; more];
+        one.preparations = preparations(&shell.edges, pieces);
+        let list = |&[t, x, y, z]: &[f64; 4]| vec![(t, Point3::new(x, y, z))];
+        SeveralCuts {
+            one,
+            cuts: cuts.iter().rev().map(list).collect(),
+            before: [shell.vertices.len(), shell.edges.len()],
+        }
+    }
+}
+
+impl Ready for SeveralCuts {
+    type Answer = records::Shell;
+
+    fn renew(&mut self, from: &Self) {
+        self.one.renew(&from.one);
+        self.cuts.clone_from(&from.cuts);
+    }
+
+    fn run(&mut self) {
+        for list in &mut self.cuts {
+            self.one.cuts = std::mem::take(list);
+            self.one.run();
+        }
+    }
+
+    /// With all numbers along the curve, as the port has them.
+    fn answer(&self) -> records::Shell {
+        turned::round(self.one.answer(), self.before)
+    }
+}
+
 /// A split of a face that is rebuilt whole.
 pub struct Split {
     edges: Vec<Edge<On<Point3>>>,

@@ -31,7 +31,7 @@ macro_rules! around_64 {
 }
 pub(crate) use around_64;
 
-/// Edges and uses of the pass and of one cut.
+/// Edges and uses of the pass and of the cuts.
 pub const EDGES_AND_USES: [Around; 15] = around_64!(2, " edges and ", " uses");
 
 /// All cases.

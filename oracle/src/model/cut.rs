@@ -1,4 +1,5 @@
-//! The refusals of the cut of an edge, and what its result counts.
+//! The refusals of the cut of an edge, and what its result counts: with any
+//! count of cuts, since 1 to 5 are the same where several are made.
 
 use super::{edge_float, end_unknown, float_unfit, kind_or_preparation_unknown, range_unfit};
 use super::{lowest, tables_passed, unfit, use_count, use_unknown, wires_passed};
@@ -16,6 +17,11 @@ pub struct Cuts<'a> {
 
 /// Why a cut is refused, save for its result: the lowest of 1 to 5, else 14.
 pub fn cut_refused(lent: &Lent, cuts: &Cuts) -> Option<i32> {
+    unsound(lent, cuts).or((cuts.count >= 2).then_some(14))
+}
+
+/// The lowest of 1 to 5, over all that is lent.
+pub fn unsound(lent: &Lent, cuts: &Cuts) -> Option<i32> {
     let tables = &lent.tables;
     let uses = || &lent.uses[..use_count(lent) as usize];
     lowest(&[
@@ -30,7 +36,6 @@ pub fn cut_refused(lent: &Lent, cuts: &Cuts) -> Option<i32> {
         (4, &|| cut_unfit(cuts)),
         (5, &|| range_unfit(tables)),
         (5, &|| cut_outside(lent, cuts)),
-        (14, &|| cuts.count >= 2),
     ])
 }
 
@@ -54,7 +59,7 @@ fn cut_outside(lent: &Lent, cuts: &Cuts) -> bool {
     })
 }
 
-/// What the result of a call that passes the causes above counts: with a cut,
+/// What the result of a call that passes the causes above counts: for each cut
 /// one vertex and one edge more, and one use more for each use of the edge.
 pub fn cut_counts(lent: &Lent, cuts: &Cuts) -> [usize; 3] {
     let uses = &lent.uses[..use_count(lent) as usize];

@@ -8,10 +8,10 @@ use crate::records::{Curve, Edge, Preparation, Vertex};
 use crate::shell::read_edge;
 
 /// From where to where a parameter runs.
-type Range = (f64, f64);
+pub type Range = (f64, f64);
 
 /// The two vertices of an edge.
-type Ends = (u32, u32);
+pub type Ends = (u32, u32);
 
 /// The steps of the cut.
 #[derive(Clone, Copy)]
@@ -90,7 +90,7 @@ pub fn cut_edge_by_intersections(reference: &Reference, call: Cut<'_>) -> i32 {
 }
 
 /// The edges below the count.
-fn edges(call: &Pass) -> Vec<Edge> {
+pub fn edges(call: &Pass) -> Vec<Edge> {
     edge_rows(&call.rows())
         .map(|(numbers, floats)| read_edge(numbers, floats))
         .collect()

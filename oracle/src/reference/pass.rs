@@ -128,16 +128,16 @@ impl Steps {
 
 /// The uses and lengths of all wires, each use replaced by what the function
 /// gives for its wire and for it, if it gives anything.
-pub fn mended_wires(
+pub fn mended_wires<R: IntoIterator<Item = u32>>(
     call: &Pass,
-    mut replaced: impl FnMut(usize, u32) -> Option<[u32; 2]>,
+    mut replaced: impl FnMut(usize, u32) -> Option<R>,
 ) -> (Vec<u32>, Vec<u32>) {
     let (mut uses, mut lengths, mut place) = (Vec::new(), Vec::new(), 0);
     for (wire, &length) in call.lengths[..call.wires].iter().enumerate() {
         let before = uses.len();
         for &number in &call.uses[place..place + length as usize] {
             match replaced(wire, number) {
-                Some(both) => uses.extend(both),
+                Some(all) => uses.extend(all),
                 None => uses.push(number),
             }
         }

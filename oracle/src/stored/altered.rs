@@ -1,15 +1,19 @@
 //! Altered records: what a call answered and left, but for one bit of one word.
 //! A replay that sees every difference finds none of them the same.
 
-use super::make::{draw, left_words, put_call};
+use super::make::{draw, left_words, of_each, put_call, Most};
 use crate::calls::Families;
 use crate::cells::Kind;
 use crate::compare::{Expected, Input};
 use crate::random::Random;
 use crate::shell::{NAMES, PREPARATION};
 
-/// Most cells in the slices of an altered call together.
-const MOST_IN_ALL: usize = 40;
+/// How long the slices of an altered call may be.
+const LITTLE: Most = Most {
+    each: 40,
+    all: 40,
+    refused: 40,
+};
 
 /// How many records are stored for each bit that is altered.
 const OF_EACH: usize = 5;
@@ -59,7 +63,7 @@ fn bits<I: Input>() -> Vec<Bit> {
 
 /// How many altered records of a call are stored.
 pub fn altered<I: Input>() -> usize {
-    OF_EACH * bits::<I>().len()
+    of_each::<I>(OF_EACH) * bits::<I>().len()
 }
 
 impl Bit {
@@ -105,9 +109,9 @@ impl Bit {
 pub fn put_altered<I: Families>(words: &mut Vec<u64>, make: fn(&mut Random, u64) -> I) {
     let mut index = 0;
     for bit in bits::<I>() {
-        let mut left = OF_EACH;
+        let mut left = of_each::<I>(OF_EACH);
         while left > 0 {
-            let drawn = draw(GROUP + I::NUMBER, index, MOST_IN_ALL, &make);
+            let drawn = draw(GROUP + I::NUMBER, index, LITTLE, &make);
             index += 1;
             let Some((input, expected)) = drawn else {
                 continue;

@@ -2,7 +2,7 @@
 //! bound, past it or so large that it wraps, and causes of a refusal that
 //! chance seldom makes.
 
-use super::make::{draw, is_new, left_words, put_call, MOST_IN_ALL};
+use super::make::{draw, is_new, left_words, of_each, put_call, Most, SHORT};
 use super::preparations::put_unknown;
 use crate::calls::cut_edge::CutEdge;
 use crate::calls::find_divisor::FindDivisor;
@@ -14,6 +14,7 @@ use crate::calls::Families;
 use crate::inputs::{lend, little_sizes, shell};
 use crate::model::MOST_VERTICES;
 use crate::random::Random;
+use crate::shell::EDGE_NUMBERS;
 
 /// How many calls are stored of each change.
 const OF_EACH: usize = 4;
@@ -36,7 +37,7 @@ const OF_JOIN: [Change<JoinWires>; 6] = [
     (1, wrapping_new_wires),
 ];
 
-const OF_SPLIT: [Change<SplitWires>; 13] = [
+const OF_SPLIT: [Change<SplitWires>; 14] = [
     (0, |input| vertices(&mut input.tables.vertices, 0)),
     (1, |input| vertices(&mut input.tables.vertices, 1)),
     (0, |input| wires(input, 64)),
@@ -45,6 +46,7 @@ const OF_SPLIT: [Change<SplitWires>; 13] = [
     (1, wrapping_lengths),
     (1, wrapping_points),
     (1, unknown_kind),
+    (2, no_range_and_no_front),
     (3, use_of_new_edge),
     (10, vertex_twice),
     (9, odd_with_vertex_twice),
@@ -55,19 +57,23 @@ const OF_SPLIT: [Change<SplitWires>; 13] = [
 /// Adds changed calls of the cut, the join and the split, and those of all
 /// calls over edges with an unknown preparation.
 pub fn put_changed_calls(words: &mut Vec<u64>) {
-    put_changed(words, &OF_CUT, cut);
-    put_changed(words, &OF_JOIN, |random| JoinWires::made(random, true));
-    put_changed(words, &OF_SPLIT, |random| SplitWires::made(random, true));
-    put_unknown(words, |random| {
+    put_changed(words, SHORT, &OF_CUT, cut);
+    put_changed(words, SHORT, &OF_JOIN, |random| {
+        JoinWires::made(random, true)
+    });
+    put_changed(words, SHORT, &OF_SPLIT, |random| {
+        SplitWires::made(random, true)
+    });
+    put_unknown(words, SHORT, |random| {
         let sizes = little_sizes(random);
         let shell = shell(random, &sizes);
         SplitClosed::in_the_middle(lend(random, &shell))
     });
-    put_unknown(words, |random| NearestEnds::made(random, true));
-    put_unknown(words, |random| FindDivisor::made(random, true));
-    put_unknown(words, cut);
-    put_unknown(words, |random| JoinWires::made(random, true));
-    put_unknown(words, |random| SplitWires::made(random, true));
+    put_unknown(words, SHORT, |random| NearestEnds::made(random, true));
+    put_unknown(words, SHORT, |random| FindDivisor::made(random, true));
+    put_unknown(words, SHORT, cut);
+    put_unknown(words, SHORT, |random| JoinWires::made(random, true));
+    put_unknown(words, SHORT, |random| SplitWires::made(random, true));
 }
 
 /// A small shell with cuts.
@@ -79,6 +85,7 @@ fn cut(random: &mut Random) -> CutEdge {
 /// Adds calls that are made, found to be done, and changed.
 pub fn put_changed<I: Families>(
     words: &mut Vec<u64>,
+    most: Most,
     changes: &[Change<I>],
     made: fn(&mut Random) -> I,
 ) {
@@ -91,9 +98,9 @@ pub fn put_changed<I: Families>(
                 return input;
             }
         };
-        let mut left = OF_EACH;
+        let mut left = of_each::<I>(OF_EACH);
         while left > 0 {
-            let drawn = draw(GROUP + I::NUMBER, index, MOST_IN_ALL, &changed);
+            let drawn = draw(GROUP + I::NUMBER, index, most, &changed);
             index += 1;
             let Some((input, expected)) = drawn else {
                 continue;
@@ -191,6 +198,19 @@ fn unknown_kind(input: &mut SplitWires) -> bool {
         input.tables.edge_numbers[2] = 2;
     }
     input.tables.edges > 0
+}
+
+/// The range of the first edge is turned round, and the front of the last one
+/// is too large: what is met first is not what is lowest.
+fn no_range_and_no_front(input: &mut SplitWires) -> bool {
+    let tables = &mut input.tables;
+    if tables.edges < 2 {
+        return false;
+    }
+    let (t0, t1) = tables.edge(0).curve.range();
+    tables.edge_floats.swap(4, 5);
+    tables.edge_numbers[(tables.edges - 1) * EDGE_NUMBERS] = tables.vertices as u32;
+    t0 < t1
 }
 
 /// The first use is of the first new edge, and no cells stand behind the uses.

@@ -1,12 +1,14 @@
 //! The making of the file, which always comes out the same.
 
 use super::altered::put_altered;
+use super::chains::{few, put_chains, OF_CHAINS};
 use super::changed::put_changed_calls;
-use super::{lengths_first, MOST_CELLS};
+use super::lengths_first;
 use crate::calls::cut_edge::CutEdge;
 use crate::calls::find_divisor::FindDivisor;
 use crate::calls::join_wires::JoinWires;
 use crate::calls::nearest_correction::NearestEnds;
+use crate::calls::several_cuts::SeveralCuts;
 use crate::calls::sort_wires::SortWires;
 use crate::calls::split_closed_edges::SplitClosed;
 use crate::calls::split_wires::SplitWires;
@@ -20,11 +22,23 @@ use crate::reference::search::{distance2, Found};
 use crate::reference::{near, tables, Reference};
 use crate::{limits, model};
 
-/// Most cells in the slices of a stored call together.
-pub(super) const MOST_IN_ALL: usize = 120;
+/// How long the slices of a stored call may be.
+#[derive(Clone, Copy)]
+pub(super) struct Most {
+    /// Most cells in each of them.
+    pub each: usize,
+    /// Most cells in all of them together.
+    pub all: usize,
+    /// The same of a call that is refused.
+    pub refused: usize,
+}
 
-/// Most cells in the slices of a stored call together that is refused.
-const MOST_REFUSED: usize = 60;
+/// How long they are in every call but `cut_edge_at_points`.
+pub(super) const SHORT: Most = Most {
+    each: 64,
+    all: 120,
+    refused: 60,
+};
 
 /// The seed of the file.
 const SEED: u64 = 0x6b61_7567;
@@ -118,7 +132,7 @@ const OF_SPLIT: [Quota; 11] = [
 ];
 
 /// How many calls are stored at least, by the name of the call.
-pub const QUOTAS: [(&str, &[Quota]); 10] = [
+pub const QUOTAS: [(&str, &[Quota]); 11] = [
     (SplitClosed::NAME, &OF_PASS),
     (Unwrap::NAME, &OF_NUMBERS),
     (NearestCopy::NAME, &OF_NUMBERS),
@@ -129,6 +143,7 @@ pub const QUOTAS: [(&str, &[Quota]); 10] = [
     (CutEdge::NAME, &OF_CUT),
     (JoinWires::NAME, &OF_JOIN),
     (SplitWires::NAME, &OF_SPLIT),
+    (SeveralCuts::NAME, &OF_CHAINS),
 ];
 
 /// How many calls are stored to tell one other distance from the right one.
@@ -180,8 +195,8 @@ fn put_calls(words: &mut Vec<u64>) {
     store(words, 14, &OF_JOIN, join, &|_| true);
     store(words, 15, &OF_SPLIT, split, &|_| true);
     store(words, 16, &OF_SEVERAL, split, &has_wires_and_seams);
-    store(words, 17, &[(2, 6)], split, &tells(first_cause_met()));
     put_changed_calls(words);
+    put_chains(words);
 }
 
 /// Adds the second list: altered records of all calls.
@@ -196,18 +211,28 @@ fn put_altered_calls(words: &mut Vec<u64>) {
     put_altered(words, cut);
     put_altered(words, join);
     put_altered(words, split);
+    put_altered(words, few);
 }
 
-/// An input of a group and what the Rust says to it, if its slices are short
-/// and have at most so many cells together.
+/// How many calls of a kind are stored where so many are of others: few of the
+/// cut at several points, whose records are long and are read and compared as
+/// those of one cut are.
+pub(super) fn of_each<I: Input>(others: usize) -> usize {
+    match I::NUMBER {
+        SeveralCuts::NUMBER => 2,
+        _ => others,
+    }
+}
+
+/// An input of a group and what the Rust says to it, if its slices are short.
 pub(super) fn draw<I: Families>(
     group: u64,
     index: u64,
-    most: usize,
+    most: Most,
     make: &dyn Fn(&mut Random, u64) -> I,
 ) -> Option<(I, Expected<I>)> {
     let input = make(&mut Random::new(SEED, group, index), index);
-    if !is_small(&input, most) {
+    if !is_small(&input, most.each, most.all) {
         return None;
     }
     let expected = input.expected();
@@ -227,10 +252,21 @@ fn store<I: Families>(
     make: fn(&mut Random, u64) -> I,
     is_stored: &dyn Fn(&I) -> bool,
 ) {
+    store_within(words, (group, SHORT), quotas, make, is_stored);
+}
+
+/// The same with calls of a length.
+pub(super) fn store_within<I: Families>(
+    words: &mut Vec<u64>,
+    (group, most): (u64, Most),
+    quotas: &[Quota],
+    make: fn(&mut Random, u64) -> I,
+    is_stored: &dyn Fn(&I) -> bool,
+) {
     let is_new = is_new();
     let (mut left, mut index) = (quotas.to_vec(), 0);
     while left.iter().any(|&(_, times)| times > 0) {
-        let drawn = draw(group, index, MOST_IN_ALL, &make);
+        let drawn = draw(group, index, most, &make);
         index += 1;
         let Some((input, expected)) = drawn else {
             continue;
@@ -239,7 +275,7 @@ fn store<I: Families>(
             .iter_mut()
             .find(|(answer, _)| *answer == expected.answer);
         if let Some((_, times)) = quota {
-            let fits = expected.answer <= 0 || is_small(&input, MOST_REFUSED);
+            let fits = expected.answer <= 0 || is_small(&input, most.each, most.refused);
             if *times > 0 && fits && is_new(&input) && is_stored(&input) {
                 *times -= 1;
                 put_call(words, &input);
@@ -336,10 +372,10 @@ fn tell_apart<I: Input>(input: &I) -> I {
     I::put_together(&scalars, slices).expect("the same kinds")
 }
 
-/// Whether the slices are short, and have at most so many cells together.
-fn is_small<I: Input>(input: &I, most: usize) -> bool {
+/// Whether each slice has at most so many cells, and all have together.
+fn is_small<I: Input>(input: &I, each: usize, all: usize) -> bool {
     let sizes: Vec<usize> = input.slices().iter().map(Cells::size).collect();
-    sizes.iter().all(|&size| size <= MOST_CELLS) && sizes.iter().sum::<usize>() <= most
+    sizes.iter().all(|&size| size <= each) && sizes.iter().sum::<usize>() <= all
 }
 
 /// Whether an input is none of the named cases.
@@ -407,13 +443,6 @@ fn pending_first() -> Reference {
         found.retain(|&cause| cause != 5 || !(counted && tables::pending(rows, &[])));
         found
     };
-    other
-}
-
-/// Checks whose first cause that is met wins.
-fn first_cause_met() -> Reference {
-    let mut other = Reference::default();
-    other.tables.choose = |causes| causes.first().copied();
     other
 }
 

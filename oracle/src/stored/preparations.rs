@@ -2,10 +2,12 @@
 //! is not known, for every call that is lent edges.
 
 use super::changed::{put_changed, Change};
+use super::make::Most;
 use crate::calls::cut_edge::CutEdge;
 use crate::calls::find_divisor::FindDivisor;
 use crate::calls::join_wires::JoinWires;
 use crate::calls::nearest_correction::NearestEnds;
+use crate::calls::several_cuts::SeveralCuts;
 use crate::calls::split_closed_edges::SplitClosed;
 use crate::calls::split_wires::SplitWires;
 use crate::calls::Families;
@@ -61,6 +63,16 @@ impl LentEdges for CutEdge {
     }
 }
 
+impl LentEdges for SeveralCuts {
+    fn tables(&mut self) -> &mut Tables {
+        self.0.tables()
+    }
+
+    fn uses(&self) -> Vec<u32> {
+        self.0.uses()
+    }
+}
+
 impl LentEdges for JoinWires {
     fn tables(&mut self) -> &mut Tables {
         &mut self.new.tables
@@ -82,7 +94,7 @@ impl LentEdges for SplitWires {
 }
 
 /// Adds such calls, made by a maker of calls that are mostly done.
-pub fn put_unknown<I: LentEdges>(words: &mut Vec<u64>, made: fn(&mut Random) -> I) {
+pub fn put_unknown<I: LentEdges>(words: &mut Vec<u64>, most: Most, made: fn(&mut Random) -> I) {
     let changes: [Change<I>; 6] = [
         (1, of_used),
         (1, of_unused),
@@ -91,7 +103,7 @@ pub fn put_unknown<I: LentEdges>(words: &mut Vec<u64>, made: fn(&mut Random) -> 
         (0, uncounted),
         (1, four_numbers),
     ];
-    put_changed(words, &changes, made);
+    put_changed(words, most, &changes, made);
 }
 
 /// Sets a number cell of an edge row.

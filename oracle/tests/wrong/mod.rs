@@ -7,6 +7,7 @@ pub mod near;
 pub mod pass;
 pub mod preparations;
 pub mod search;
+pub mod several_cuts;
 pub mod split;
 
 use oracle::port::{Closed, Cut, CutParameter, Join, Nearest, NearestCopy, Port};
@@ -29,6 +30,7 @@ pub fn lists(call: &str) -> Vec<Vec<Mutant>> {
         "nearest_correction" => of_edges(search::lists_of_nearest()),
         "find_non_simple_wire_divisor" => of_edges(search::lists_of_search()),
         "cut_edge_by_intersections" => of_edges(cut::lists()),
+        "cut_edge_at_points" => of_edges(several_cuts::lists()),
         "connect_open_boundaries" => of_edges(join::lists()),
         "split_boundaries_by_divisor" => of_edges(split::lists()),
         _ => panic!("no call of the name {call}"),
@@ -61,6 +63,7 @@ pub struct Behind {
     pub nearest: fn(i32, &mut Nearest) -> i32,
     pub search: fn(i32, &mut Search) -> i32,
     pub cut: fn(i32, &Lent, &mut Cut) -> i32,
+    pub several: fn(i32, &Lent, &mut Cut) -> i32,
     /// The uses and lengths of the new wires as they were come first.
     pub join: fn(i32, [&[u32]; 2], &mut Join) -> i32,
     pub split: fn(i32, &Kept, &mut Split) -> i32,
@@ -108,6 +111,7 @@ pub fn behind(name: &'static str, change: impl Fn(&mut Behind)) -> Mutant {
         nearest: |answer, _| answer,
         search: |answer, _| answer,
         cut: |answer, _, _| answer,
+        several: |answer, _, _| answer,
         join: |answer, _, _| answer,
         split: |answer, _, _| answer,
     };
@@ -160,6 +164,10 @@ impl Port for Only<'_> {
 
     fn cut_edge_by_intersections(&self, call: Cut<'_>) -> i32 {
         self.port.cut_edge_by_intersections(call)
+    }
+
+    fn cut_edge_at_points(&self, call: Cut<'_>) -> i32 {
+        self.port.cut_edge_at_points(call)
     }
 
     fn connect_open_boundaries(&self, call: Join<'_>) -> i32 {
@@ -233,6 +241,12 @@ impl Port for Behind {
         let before = call.pass.copy();
         let answer = right().cut_edge_by_intersections(call.again());
         (self.cut)(answer, &before, &mut call)
+    }
+
+    fn cut_edge_at_points(&self, mut call: Cut<'_>) -> i32 {
+        let before = call.pass.copy();
+        let answer = right().cut_edge_at_points(call.again());
+        (self.several)(answer, &before, &mut call)
     }
 
     fn connect_open_boundaries(&self, mut call: Join<'_>) -> i32 {

@@ -175,6 +175,7 @@ pub fn wrong_sight() -> Vec<Mutant> {
         behind("four numbers are enough for an edge", |b| {
             b.pass = |answer, _, call| four_enough(answer, call.pass.edge_numbers, call.pass.edges);
             b.cut = |answer, _, call| four_enough(answer, call.pass.edge_numbers, call.pass.edges);
+            b.several = b.cut;
             b.nearest = |answer, call| four_enough(answer, call.rows.edge_numbers, call.rows.edges);
             b.search = |answer, call| four_enough(answer, call.rows.edge_numbers, call.rows.edges);
             b.join = |answer, _, call| four_enough(answer, call.rows.edge_numbers, call.rows.edges);

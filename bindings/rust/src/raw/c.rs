@@ -54,6 +54,32 @@ extern "C" {
         uses_out: *mut usize,
     ) -> i32;
 
+    /// Cuts one edge at several points and mends every wire.
+    pub fn kaugrenna_cut_edge_at_points(
+        vertex_numbers: *mut u32,
+        vertex_numbers_len: usize,
+        vertex_floats: *mut f64,
+        vertex_floats_len: usize,
+        edge_numbers: *mut u32,
+        edge_numbers_len: usize,
+        edge_floats: *mut f64,
+        edge_floats_len: usize,
+        uses: *mut u32,
+        uses_len: usize,
+        lengths: *mut u32,
+        lengths_len: usize,
+        cuts: *const f64,
+        cuts_len: usize,
+        vertices: usize,
+        edges: usize,
+        wires: usize,
+        edge: u32,
+        cut_count: usize,
+        vertices_out: *mut usize,
+        edges_out: *mut usize,
+        uses_out: *mut usize,
+    ) -> i32;
+
     /// u, moved by whole periods to where it is nearest to u0.
     pub fn kaugrenna_get_mindiff(
         u: f64,

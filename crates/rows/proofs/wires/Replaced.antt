@@ -35,14 +35,18 @@ module _ (f b : ℕ → ℕ) where
   leads_closed [] a l = (leads_connected [] a a l, tt)
   leads_closed (u ∷ us) a l = (leads_connected (u ∷ us) a a l, leads_back us (b u) a l.1 ∙ sym l.0)
 
-  leads_append : (xs ys : List ℕ) (a m z : ℕ) → Leads f b a xs m → Leads f b m ys z → Leads f b a (xs ++ ys) z
+  pub leads_append : (xs ys : List ℕ) (a m z : ℕ) → Leads f b a xs m → Leads f b m ys z → Leads f b a (xs ++ ys) z
   unfolding Leads
   leads_append [] ys a m z p q = rw p q
   leads_append (u ∷ xs) ys a m z p q = (p.0, leads_append xs ys (b u) m z p.1 q)
 
-  leads_none : Leads f b 0 [] 0
+  pub leads_none : (a z : ℕ) → a ≡ z → Leads f b a [] z
   unfolding Leads
-  leads_none = refl
+  leads_none a z p = p
+
+  pub leads_first : (u : ℕ) (us : List ℕ) (a z : ℕ) → f u ≡ a → Leads f b (b u) us z → Leads f b a (u ∷ us) z
+  unfolding Leads
+  leads_first u us a z p q = (p, q)
 
   pub leads_one : (u : ℕ) → Leads f b (f u) (u ∷ []) (b u)
   unfolding Leads
@@ -77,13 +81,13 @@ module _ (f b g d : ℕ → ℕ) (r : ℕ → List ℕ) (P : ℕ → Type 0) (le
 
   pub replaced_connected : (w : List ℕ) → ((k : ℕ) → k < length w → P (get_or w k 0)) → Connected f b w → Connected g d (replaced r w)
   unfolding replaced Every
-  replaced_connected [] h c = leads_connected g d [] 0 0 (leads_none g d)
+  replaced_connected [] h c = leads_connected g d [] 0 0 (leads_none g d 0 0 refl)
   replaced_connected (u ∷ us) h c =
       leads_connected g d (replaced r (u ∷ us)) (f u) (last_back b (b u) us) (replaced_leads (u ∷ us) (f u) (last_back b (b u) us) h (leads_whole u us c))
 
   pub replaced_closed : (w : List ℕ) → ((k : ℕ) → k < length w → P (get_or w k 0)) → Closed f b w → Closed g d (replaced r w)
   unfolding replaced Every Closes
-  replaced_closed [] h c = leads_closed g d [] 0 (leads_none g d)
+  replaced_closed [] h c = leads_closed g d [] 0 (leads_none g d 0 0 refl)
   replaced_closed (u ∷ us) h c =
       let l : Leads f b (f u) (u ∷ us) (f u) = rw c.1 at (leads_whole u us c.0) in
       leads_closed g d (replaced r (u ∷ us)) (f u) (replaced_leads (u ∷ us) (f u) (f u) h l)

@@ -22,7 +22,7 @@ pub struct Counts {
 pub struct Lengths {
     pub first: usize,
     pub second: usize,
-    pub ghost bound: { (first ≤ 64) × (second ≤ 64) },
+    pub ghost bound: { (first ≤ 512) × (second ≤ 512) },
 }
 
 // Two buffers.

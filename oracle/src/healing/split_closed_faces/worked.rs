@@ -236,21 +236,26 @@ fn one_cut_mends_the_wires() {
 type Piece = ((usize, usize), (f64, f64));
 
 /// The line from vertex 0 to vertex 1 with the parameters 0 to 1, cut at
-/// these: the pieces, the count of vertices, and the wire 0+ once it is mended.
-fn line_cut_at(ts: &[f64]) -> (Vec<Piece>, usize, Wire) {
+/// these: the pieces, the count of vertices, and the wires 0+ and 0- once they
+/// are mended.
+fn line_cut_at(ts: &[f64]) -> (Vec<Piece>, usize, [Wire; 2]) {
     let mut edges = all_edges(&[(0, 1)]);
     edges[0].curve.curve = edges[0].curve.curve.over(0.0, 1.0);
     let (mut points, mut lines) = (vertices()[..2].to_vec(), vec![PolylineCurve(Vec::new())]);
     let cuts = ts.iter().map(|&t| (t, Point3::new(t, 0.0, 0.0))).collect();
     let new = cut_edge_by_intersections(0, cuts, &mut edges, &mut lines, &mut points, 0.1);
-    let mut mended = wire("0+");
-    insert_new_edges(&mut mended, 0, new);
+    let mended = ["0+", "0-"].map(|notation| {
+        let mut mended = wire(notation);
+        insert_new_edges(&mut mended, 0, new.clone());
+        mended
+    });
     let told = |edge: &Edge<On<Point3>>| (edge.vertices, edge.curve.curve.range());
     (edges.iter().map(told).collect(), points.len(), mended)
 }
 
-/// Why the port refuses two cuts: of the three pieces in the wire none begins
-/// where the one before it ends, and vertex 4 of four vertices is not there.
+/// Why the port's call of the Rust refuses two cuts: of the three pieces in a
+/// wire none begins where the one before it ends, and vertex 4 of four vertices
+/// is not there.
 #[test]
 fn two_cuts_come_apart() {
     let (edges, vertices, mended) = line_cut_at(&[0.25, 0.5]);
@@ -260,10 +265,55 @@ fn two_cuts_come_apart() {
         ((2, 1), (0.25, 0.5)),
     ];
     assert_eq!((&edges[..], vertices), (&pieces[..], 4));
-    assert_eq!(mended, wire("0+ 1+ 2+"));
+    assert_eq!(mended, ["0+ 1+ 2+", "2- 1- 0-"].map(wire));
     let one = line_cut_at(&[0.25]);
     let pieces = vec![((0, 2), (0.0, 0.25)), ((2, 1), (0.25, 1.0))];
-    assert_eq!(one, (pieces, 3, wire("0+ 1+")));
+    assert_eq!(one, (pieces, 3, ["0+ 1+", "1- 0-"].map(wire)));
+}
+
+/// So from two cuts on: the pieces stand from the last to the second behind the
+/// first, each from its own vertex to the next number, save that the second
+/// piece ends where the line did.
+#[test]
+fn three_cuts_come_apart() {
+    let (edges, vertices, mended) = line_cut_at(&[0.25, 0.5, 0.75]);
+    let pieces = [
+        ((0, 2), (0.0, 0.25)),
+        ((4, 5), (0.75, 1.0)),
+        ((3, 4), (0.5, 0.75)),
+        ((2, 1), (0.25, 0.5)),
+    ];
+    assert_eq!((&edges[..], vertices), (&pieces[..], 5));
+    assert_eq!(mended, ["0+ 1+ 2+ 3+", "3- 2- 1- 0-"].map(wire));
+}
+
+/// Over and over, from the last to the first, the Rust's one cut does not.
+#[test]
+fn one_cut_over_and_over_does_not_come_apart() {
+    let cuts = [[0.25, 2.0, 3.0, 4.0], [0.5, 5.0, 6.0, 7.0]];
+    let line = |front: u32, back: u32, t0: f64, t1: f64| records::Edge {
+        front,
+        back,
+        curve: Curve::Span { number: 0, t0, t1 },
+        preparation: records::Preparation::SingleBevel,
+    };
+    let before = records::Shell {
+        vertices: vec![records::Vertex::Given(0.0, 0.0, 0.0); 2],
+        edges: vec![line(0, 1, 0.0, 1.0)],
+        wires: records::wires(&["0+", "0-"]),
+    };
+    let falling = [cuts[1], cuts[0]];
+    let after = crate::healing::cut(&before, 0, &falling);
+    let pieces = [(0, 3, 0.0, 0.25), (2, 1, 0.5, 1.0), (3, 2, 0.25, 0.5)];
+    assert_eq!(after.edges, pieces.map(|(a, b, t, u)| line(a, b, t, u)));
+    assert_eq!(after.wires, records::wires(&["0+ 2+ 1+", "1- 2- 0-"]));
+    let along = crate::healing::cut_from_last(&before, 0, &cuts);
+    let pieces = [(0, 2, 0.0, 0.25), (2, 3, 0.25, 0.5), (3, 1, 0.5, 1.0)];
+    assert_eq!(along.edges, pieces.map(|(a, b, t, u)| line(a, b, t, u)));
+    assert_eq!(along.wires, records::wires(&["0+ 1+ 2+", "2- 1- 0-"]));
+    let points = [(2.0, 3.0, 4.0), (5.0, 6.0, 7.0)];
+    let points = points.map(|(x, y, z)| records::Vertex::Given(x, y, z));
+    assert_eq!(along.vertices[2..], points);
 }
 
 /// Its caller `take_vertices_to_intersections` goes by an edge without

@@ -1,0 +1,7 @@
+use Rattle.std.proofs.Common.{arith}
+use lib.Ieee.{nan, of_bits}
+use Rattle.edge_cuts.proofs.float_at.Goals as goal
+
+pub returns : goal.returns
+unfolding of_bits
+returns c = rw (c.unwrap_or.ensures, c.copied.ensures) (c.get.ensures.lookup.4 (omega arith) nan)
