@@ -58,10 +58,11 @@
  *
  * Bounds: 4,096 vertices, 4,096 edges, 64 wires into a call, 1,024 uses in
  * all wires of a call together, 1,024 uses out; each float that is lent at
- * most 1.0e15 in size. The wires that one call is lent count together: in
- * nearest ends the uses of both stretches; in a join the two open wires and
- * the new ones, so at most 62 of these; in a split the face's wires and those
- * to be rebuilt. The wires that a split answers are not bounded by 64.
+ * most 1.0e15 in size; in cuts at several points 64 cuts, of which more are
+ * 16 and not 1. The wires that one call is lent count together: in nearest
+ * ends the uses of both stretches; in a join the two open wires and the new
+ * ones, so at most 62 of these; in a split the face's wires and those to be
+ * rebuilt. The wires that a split answers are not bounded by 64.
  */
 #ifndef KAUGRENNA_H
 #define KAUGRENNA_H
@@ -204,7 +205,7 @@ KAUGRENNA_INLINE const char *kaugrenna_text(int32_t code) {
     case KAUGRENNA_EMPTY_LIST:
         return "the walk arrives at a vertex whose list is empty";
     case KAUGRENNA_SEVERAL_CUTS:
-        return "an edge is to be cut at two or more places";
+        return "one cut is handed two or more cuts";
     case KAUGRENNA_EMPTY_OPEN_WIRE:
         return "an open wire handed to a join is empty";
     case KAUGRENNA_TOO_MANY_CUTS:
@@ -315,14 +316,14 @@ int32_t kaugrenna_cut_edge_by_intersections(
  * Edge number `edge`, from vertex a to vertex b, is cut by the cuts in `cuts`,
  * at most 64 of them in strictly rising parameter, four floats each:
  * parameter, x, y, z. It becomes a chain of pieces from a to b, and every wire
- * is mended, in place. With n vertices, m edges and k cuts lent the piece from
+ * is mended, in place. With n vertices, m edges and c cuts lent the piece from
  * a to n keeps the number of the edge, the others are the new edges m, from n
- * to n + 1, and so on, the last m + k - 1, from n + k - 1 to b. So the new
+ * to n + 1, and so on, the last m + c - 1, from n + c - 1 to b. So the new
  * edges and the new vertices, which are given by the points of the cuts, are
  * numbered along the curve. The ranges of the pieces join at the cuts, from t0
  * to t1, and each piece has the preparation of the edge that was cut. A
- * forward use of the edge becomes the chain i+ m+ .. (m+k-1)+, where i is
- * `edge`, and a reversed one the chain backwards, (m+k-1)- .. m- i-. No cut
+ * forward use of the edge becomes the chain i+ m+ .. (m+c-1)+, where i is
+ * `edge`, and a reversed one the chain backwards, (m+c-1)- .. m- i-. No cut
  * changes nothing. With no cut and with one the answers are those of
  * `kaugrenna_cut_edge_by_intersections`. 0: done, and the three places hold
  * the counts of vertices, edges and uses. Else the number of the refusal, and
@@ -334,7 +335,7 @@ int32_t kaugrenna_cut_edge_by_intersections(
  * above the one before it (17), and 6 last. The first parameter may be t0 and
  * the last t1; 0.0 is not above -0.0.
  *
- * Room: for k cuts k rows in each table, and k places in `uses` for every use
+ * Room: for c cuts c rows in each table, and c places in `uses` for every use
  * of the edge, with at most 1,024 uses in all; for no cut none.
  */
 int32_t kaugrenna_cut_edge_at_points(

@@ -1,5 +1,6 @@
-//! Stored answers: a list of calls with what the Rust said to them, for a
-//! replay where the Rust is not at hand.
+//! Stored answers: a list of calls with what was expected of them, for a replay
+//! where the Rust is not at hand: the Rust's answer, of two cuts and more what
+//! both witnesses came to, and of a refusal the model's.
 //!
 //! The file is a row of 64-bit words, low byte first. A record is the number
 //! of the call, its plain arguments, for each slice its length and its cells,
@@ -10,8 +11,8 @@
 //! the list.
 //!
 //! Behind it stands a second list, of altered records, which the word 0 ends
-//! too. In each of them one bit is another than the Rust's: of the answer, of
-//! an out value, of the first or the last cell of a slice that may be written
+//! too. In each of them one bit is another than what the call answered and left: of
+//! the answer, of an out value, of the first or the last cell of a slice that may be written
 //! to, or of the cell there for the preparation of the first edge. A replay
 //! must find none of them the same, so it is seen here that a replay does see
 //! differences.
@@ -54,8 +55,8 @@ pub use altered::altered;
 #[cfg(rust_at_hand)]
 pub use make::{file_of, lists, make, QUOTAS};
 
-/// Most cells in a buffer that is stored: those of an edge with 64 cuts have
-/// more than 64 cells, and no others have.
+/// Most cells in a buffer that is stored: those of an edge with 64 or 65
+/// cuts have more than 64 cells, and no others have.
 const MOST_CELLS: usize = 512;
 
 /// Whether the lengths of all slices come first.

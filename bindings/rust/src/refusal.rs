@@ -49,7 +49,7 @@ pub enum Refusal {
     TooManyUses,
     /// 13: the walk arrives at a vertex whose list is empty. Never met.
     EmptyList,
-    /// 14: an edge is to be cut at two or more places.
+    /// 14: one cut is handed two or more cuts.
     SeveralCuts,
     /// 15: an open wire handed to a join is empty.
     EmptyOpenWire,
@@ -158,7 +158,7 @@ impl fmt::Display for Refusal {
                 "the walk arrives at a vertex that three or more unused uses leave (a crowd)"
             }
             Refusal::EmptyList => "the walk arrives at a vertex whose list is empty",
-            Refusal::SeveralCuts => "an edge is to be cut at two or more places",
+            Refusal::SeveralCuts => "one cut is handed two or more cuts",
             Refusal::EmptyOpenWire => "an open wire handed to a join is empty",
             Refusal::TooManyCuts => "an edge is to be cut at more than 64 places",
             Refusal::NotRising => "the parameters of the cuts do not rise strictly",

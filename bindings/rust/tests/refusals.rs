@@ -263,7 +263,7 @@ fn refusals_of_too_many_cuts_at_points() {
     };
     let mut cuts = cuts_at(&rising(most as u32 + 1));
     assert_eq!(refused(&cuts, most + 1), Some(Refusal::TooManyCuts));
-    // Lent, but not counted, is one too many no input.
+    // A 65th cut that is lent but not counted is no input.
     assert_eq!(refused(&cuts, most), None);
     assert_eq!(refused(&cuts, most + 2), Some(Refusal::Malformed));
     // 17 comes after 16, and 1 to 5 of every cut before both.

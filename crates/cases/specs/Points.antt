@@ -86,7 +86,7 @@ pub three_of_closed : several_outcome (rim 0 0 (0 ∷ [])) 0 (cut_floats ends_an
 unfolding add sub mul div neg lt le round of_bits lower_of lowest_of float_cause range_cause parameter_cause curve_cause edge_cause point_cause vertex_cause edge_row_cause vertex_row_cause edges_cause vertices_cause uses_cause wires_cause put store_from rows curve_of edge_of vertex_of edge_number_layout edge_float_layout vertex_number_layout vertex_float_layout total wires_of uses_of lengths_of load store_shell counts_of vertices_fit edges_fit uses_fit has_room input_cause halves_of replaced chain_forward chain_backwards uses_for mended parts_of cut_cause cuts_cause rising pieces_at cut_at_points edge_cuts_cause points_outcome order_cause several_outcome
 three_of_closed = refl
 
--- no cut changes nothing; but "an edge number is not below the edge count" is 3 without a cut too
+-- no cut changes nothing; but an edge number that is not below the edge count is 3 without a cut too
 pub none_unchanged : several_outcome (rim 0 1 (0 ∷ [])) 0 [] 0 ≡ record { said = result (record { vertices = 2; edges = 1; uses = 1 }); slices = (rim 0 1 (0 ∷ [])).slices }
 unfolding add sub mul div neg lt le round of_bits lower_of lowest_of float_cause range_cause parameter_cause curve_cause edge_cause point_cause vertex_cause edge_row_cause vertex_row_cause edges_cause vertices_cause uses_cause wires_cause put store_from rows curve_of edge_of vertex_of edge_number_layout edge_float_layout vertex_number_layout vertex_float_layout total wires_of uses_of lengths_of load store_shell counts_of vertices_fit edges_fit uses_fit has_room input_cause halves_of replaced chain_forward chain_backwards uses_for mended parts_of cut_cause cuts_cause rising pieces_at cut_at_points edge_cuts_cause points_outcome order_cause several_outcome
 none_unchanged = refl

@@ -10,10 +10,11 @@ use Rattle.edge_cuts.specs.declared.cuts.Cut.{Cut}
 use Rattle.edge_cuts.specs.cuts.Cuts.{cuts_cause}
 use Rattle.edge_cuts.specs.Cut.{cut_at_points}
 
--- 1 to 5, over all that was lent: the shell, the edge number i, and n cuts. (Where there is no edge i, 3 is below all that its curve could earn.)
+-- the curve of edge i
 abbrev pub curve_at : Lent → ℕ → Curve
 curve_at l i = (edge_at l.slices.en l.slices.ef i).curve
 
+-- 1 to 5, over all that was lent: the shell, the edge number i, and n cuts. (Where there is no edge i, 3 is below all that its curve could earn.)
 unfoldable pub edge_cuts_cause : Lent → ℕ → List Float → ℕ → ℕ
 edge_cuts_cause l i cs n =
     lower_of (input_cause l) (lower_of (edge_number_cause l.edges i) (cuts_cause (first_of (curve_at l i)) (last_of (curve_at l i)) cs n))

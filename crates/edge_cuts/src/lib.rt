@@ -28,7 +28,7 @@ fn float_at(floats: &[f64], i: usize) -> f64
     floats.get(i).copied().unwrap_or(f64::NAN)
 }
 
-// Causes 1 to 5, over all that is lent, as the calls have it: the definition `lent` of the contracts here is of tables that are to be written.
+// Causes 1 to 5, over all that is lent. Tables and wires come as they are to be written, though they are only read here, since `lent` is defined of those.
 pub fn edge_cuts_cause(
     vertices: &TableMut<Vertex>,
     edges: &TableMut<Edge>,

@@ -17,7 +17,7 @@ use Rattle.split.specs.Demand.{fronts_at, backs_at, Balanced, AtMostTwo, Kept}
 use Rattle.wire_kinds.specs.declared.BoundaryType.{BoundaryType}
 use Rattle.wire_kinds.specs.Kinds.{boundary_number, SortOutcome, boundary_type_said}
 
--- ---- a call that changes a shell, for a host: the closed-edge pass, or one cut
+-- ---- a call that changes a shell, for a host: the closed-edge pass, one cut, or cuts at several points
 pub record HostShell (o : Outcome) (before after : Counts) (slices : Slices) (r : ℤ) : Type 0 where
   pub told : Told o.said before after r
   pub lent : slices ≡ o.slices

@@ -34,6 +34,6 @@ is_of e u = eqb (edge_of_use u) e
 abbrev pub parts_by : Pieces → ℕ → List ℕ
 parts_by p = parts_of p.edge p.first p.cuts
 
--- their numbers, and those of their uses, are small
-abbrev pub Few : Pieces → Type 0
-Few p = (p.first ≤ 4096) × (p.cuts ≤ 64)
+-- the first new edge is at most 4,096 and the cuts are at most 64, so no number of a piece or of its use overflows
+abbrev pub Small : Pieces → Type 0
+Small p = (p.first ≤ 4096) × (p.cuts ≤ 64)

@@ -1,4 +1,4 @@
-// The pieces of one edge that was cut, put into the wires: `insert_new_edges` of document 001, for any number of cuts (document 02, A.1).
+// The pieces of one edge that was cut, put into the wires: `insert_new_edges` of document 000, for any number of cuts (document 02, A.1).
 #![tactic(auto)]
 
 ghost use Rattle.std.specs.Prelude.{◌≡◌, ◌+◌, ◌*◌, ◌/◌, ◌≤◌, length, take, count_by};
@@ -10,7 +10,7 @@ ghost use Rattle.rows.specs.Places.{SameWires};
 ghost use Rattle.rows.specs.wires.Connected.{replaced};
 ghost use Rattle.checks.specs.Causes.{wires_cause};
 ghost use Rattle.cutting.specs.mending.Steps.{InPlace};
-ghost use Rattle.pieces.specs.Pieces.{chain_forward, chain_backwards, is_of, uses_for, mended, parts_by, Few};
+ghost use Rattle.pieces.specs.Pieces.{chain_forward, chain_backwards, is_of, uses_for, mended, parts_by, Small};
 
 use cutting::mending::NoRoom;
 use rows::lent::{Wires, WiresMut};
@@ -27,7 +27,7 @@ pub struct Pieces {
 
 // The edges cut off, forward, are written over the front of `out`.
 fn put_forward(p: Pieces, out: &mut [u32])
-    requires few { Few p }
+    requires few { Small p }
     requires room { p.cuts ≤ length out.old }
     ensures { out.new ≡ over (chain_forward (range_with_len p.first p.cuts)) out.old }
 {
@@ -38,7 +38,7 @@ fn put_forward(p: Pieces, out: &mut [u32])
 
 // The same backwards: the last one first.
 fn put_backwards(p: Pieces, out: &mut [u32])
-    requires few { Few p }
+    requires few { Small p }
     requires room { p.cuts ≤ length out.old }
     ensures { out.new ≡ over (chain_backwards (range_with_len p.first p.cuts)) out.old }
 {
@@ -49,7 +49,7 @@ fn put_backwards(p: Pieces, out: &mut [u32])
 
 // The chain that stands for a use of the edge is written over the front of `out`.
 fn put_chain(u: u32, p: Pieces, out: &mut [u32])
-    requires few { Few p }
+    requires few { Small p }
     requires of_edge { u / 2 ≡ p.edge }
     requires room { p.cuts + 1 ≤ length out.old }
     ensures { out.new ≡ over (uses_for (parts_by p) u) out.old }
@@ -65,7 +65,7 @@ fn put_chain(u: u32, p: Pieces, out: &mut [u32])
 
 // What stands for the use u is written from place `at` on, and the place after it is the answer.
 fn put_use(u: u32, p: Pieces, out: &mut [u32], at: usize) -> usize
-    requires few { Few p }
+    requires few { Small p }
     requires room { at + length (uses_for (parts_by p) u) ≤ length out.old }
     ensures { let row = uses_for (parts_by p) u in
         (result ≡ at + length row) × (out.new ≡ sets out.old at row) }
@@ -83,7 +83,7 @@ fn put_use(u: u32, p: Pieces, out: &mut [u32], at: usize) -> usize
 // `insert_new_edges`: the wire is written to `out` with the pieces put in at each use of the edge, and its length is the answer. All wires of a shell stand
 // one after the other, and are written as one.
 fn insert_new_edges(wire: &[u32], p: Pieces, out: &mut [u32]) -> usize
-    requires few { Few p }
+    requires few { Small p }
     requires room { length (replaced (uses_for (parts_by p)) wire.now) ≤ length out.old }
     ensures value { result ≡ length (replaced (uses_for (parts_by p)) wire.now) }
     ensures out_after { take result out.new ≡ replaced (uses_for (parts_by p)) wire.now }
@@ -107,7 +107,7 @@ fn occurrences(wire: &[u32], edge: u32) -> u32
 
 // How many uses the wire has with the pieces put in.
 fn mended_length(wire: &[u32], p: Pieces) -> usize
-    requires { (length wire.now ≤ 1024) × Few p }
+    requires { (length wire.now ≤ 1024) × Small p }
     ensures { result ≡ length (replaced (uses_for (parts_by p)) wire.now) }
 {
     wire.len() + p.cuts * occurrences(wire, p.edge) as usize
@@ -115,7 +115,7 @@ fn mended_length(wire: &[u32], p: Pieces) -> usize
 
 // The lengths of all wires with the pieces put in are written to `lengths`, and the answer is how many uses they have.
 fn mended_lengths(wires: &Wires, p: Pieces, lengths: &mut [u32]) -> usize
-    requires few { Few p }
+    requires few { Small p }
     requires wires_value { wires_cause p.first wires.now.uses.now wires.now.lengths.now wires.now.count ≡ 0 }
     requires room { length lengths.old ≡ 64 }
     ensures value { result ≡ length (uses_of (mended (parts_by p) (wires_in wires.now))) }
@@ -132,7 +132,7 @@ fn mended_lengths(wires: &Wires, p: Pieces, lengths: &mut [u32]) -> usize
 
 // The first `count` uses are replaced in place, by way of a buffer of N uses.
 fn replace_within<const N: usize>(uses: &mut [u32], count: usize, p: Pieces)
-    requires few { Few p }
+    requires few { Small p }
     requires lies { (count ≤ length uses.old) × (N ≤ 1024) }
     requires room { let row = replaced (uses_for (parts_by p)) (take count uses.old) in
         (length row ≤ N) × (length row ≤ length uses.old) }
@@ -145,7 +145,7 @@ fn replace_within<const N: usize>(uses: &mut [u32], count: usize, p: Pieces)
 
 // The same by a buffer that is large enough for n uses: few have a small one, since to zero it takes time.
 fn replace_uses(uses: &mut [u32], count: usize, n: usize, p: Pieces)
-    requires few { Few p }
+    requires few { Small p }
     requires lies { count ≤ length uses.old }
     requires room { (n ≡ length (replaced (uses_for (parts_by p)) (take count uses.old))) × (n ≤ 1024) × (n ≤ length uses.old) }
     ensures { uses.new ≡ over (replaced (uses_for (parts_by p)) (take count uses.old)) uses.old }
@@ -160,7 +160,7 @@ fn replace_uses(uses: &mut [u32], count: usize, n: usize, p: Pieces)
 // Every wire is mended in place, where there is room for all of them: `room` tells it of the tables, and the uses are counted and judged before one is
 // written, since 1,024 may become 66,560.
 pub fn mend_wires(wires: &mut WiresMut, p: Pieces, room: bool) -> Result<usize, NoRoom>
-    requires few { Few p }
+    requires few { Small p }
     requires wires_value { wires_cause p.first wires.old.uses.now wires.old.lengths.now wires.old.count ≡ 0 }
     ensures mended { let w = wires.old in
         let mended = mended (parts_by p) (wires_held w) in

@@ -7,7 +7,7 @@ use Prim.Native.Nat.{ℕ, zero, suc, ◌+◌, ◌-◌, ◌/◌, ◌≤◌, ◌<�
 use native.Mathlib.Omega.{arith}
 use borrow.Author.Tests.{eqb-true, eqb-false, ltb-true, ltb-false}
 use lib.Dec.{eqb, ltb}
-use lib.ListN.{length, get_or, set, length-set, get_or-append}
+use lib.ListN.{length, get_or, set, length-set, length-append, get_or-append}
 use lib.Seq.{get_or-append-add, get_or-set_same, get_or-set_other}
 use Rattle.std.specs.List.{range_with_len}
 use Rattle.compress.specs.declared.Edge.{Edge}
@@ -18,11 +18,11 @@ use Rattle.rows.proofs.wires.Replaced.{replaced_connected, replaced_closed}
 use Rattle.cutting.specs.Keeps.{edge_in, wire_in, UsesKnown}
 use Rattle.pieces.specs.Pieces.{uses_for, mended, parts_of}
 use Rattle.edge_cuts.specs.declared.cuts.Cut.{Cut}
-use Rattle.edge_cuts.specs.Cut.{pieces_at, with_pieces, cut_at_points}
-use Rattle.edge_cuts.proofs.Outcome.{length_pieces, length_with}
+use Rattle.edge_cuts.specs.Cut.{pieces_at, with_pieces, points_of, cut_at_points}
+use Rattle.edge_cuts.proofs.Outcome.{length_pieces, length_with, length_points}
 use Rattle.several_cuts.specs.Mothers.{mother_of, pieces_numbered, RunsAlong, RangesJoin, LiesOn, CutInto}
 use Rattle.several_cuts.proofs.Numbers.{each}
-use Rattle.several_cuts.proofs.Pieces.{lies_itself, pieces_along, pieces_join, piece_lies, piece_prepared, from_row}
+use Rattle.several_cuts.proofs.Pieces.{lies_itself, pieces_along, pieces_join, piece_lies, piece_prepared, piece_front, from_row}
 use Rattle.several_cuts.proofs.Uses.{Rows, use_leads, wire_tally}
 
 wire_mended : (parts : ℕ → List ℕ) (ws : List (List ℕ)) (k : ℕ) → get_or (mended parts ws) k [] ≡ replaced (uses_for parts) (get_or ws k [])
@@ -96,6 +96,10 @@ module _ (d : Edge) (s : Shell) (i : ℕ) (cs : List Cut) (lt : i < length s.edg
   many : length after.edges ≡ m + k
   many = ap length edges_are ∙ length_with s.edges i ps k long
 
+  vertices_are : length after.vertices ≡ length s.vertices + k
+  unfolding cut_at_points
+  vertices_are = length-append s.vertices (points_of cs) ∙ omega (arith, length_points cs)
+
   chain : map (edge_in d after) (pieces_numbered i m k) ≡ ps
   unfolding cut_at_points
   chain = chain_is d s.edges i lt ps k long
@@ -158,6 +162,8 @@ module _ (d : Edge) (s : Shell) (i : ℕ) (cs : List Cut) (lt : i < length s.edg
       let leads = use_leads m (length after.edges) (edge_in d s) (edge_in d after) (parts_of i m k) (mother_of m i) rows_are in
       record {
         count = many;
+        vertices = vertices_are;
+        numbered = λ j h. ap (λ (x : Edge). x.front) (later j) ∙ piece_front d e cs (length s.vertices) j h;
         others = stands;
         along = runs;
         ranges = subst (λ (l : List Edge). RangesJoin l (first_of e.curve) (last_of e.curve)) (sym chain) (pieces_join e cs (length s.vertices));

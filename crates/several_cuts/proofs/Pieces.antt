@@ -74,6 +74,15 @@ piece_prepared d e [] n (suc j) h = absurd (omega arith)
 piece_prepared d e (c ∷ cs) n zero h = refl
 piece_prepared d e (c ∷ cs) n (suc j) h = piece_prepared d (halves_of e c.t n).new cs (n + 1) j (omega arith)
 
+-- the piece behind cut j begins at its vertex
+pub piece_front : (d e : Edge) (cs : List Cut) (n j : ℕ) → j < length cs → (get_or (pieces_at e cs n) (suc j) d).front ≡ n + j
+unfolding pieces_at halves_of
+piece_front d e [] n j h = absurd (omega arith)
+piece_front d e (c ∷ []) n zero h = omega arith
+piece_front d e (c ∷ []) n (suc j) h = absurd (omega arith)
+piece_front d e (c ∷ b ∷ cs) n zero h = omega arith
+piece_front d e (c ∷ b ∷ cs) n (suc j) h = piece_front d (halves_of e c.t n).new (b ∷ cs) (n + 1) j (omega arith) ∙ omega arith
+
 -- what stands from number m on
 pub from_row : {A : Type 0} (d : A) (f : ℕ → A) (ps : List A) (m : ℕ) → ((j : ℕ) → j < length ps → f (m + j) ≡ get_or ps j d)
     → map f (range_with_len m (length ps)) ≡ ps

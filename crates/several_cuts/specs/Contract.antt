@@ -18,5 +18,6 @@ order_cause n cs = pick (ltb 64 n) 16 (when (not (rising cs)) 17)
 abbrev pub ordered_outcome : Lent → ℕ → ℕ → List Cut → Outcome
 ordered_outcome l i n cs = cause_or (order_cause n cs) (turned_away l.slices) (points_outcome l i cs)
 
+-- 1 to 5 over all that is lent, the n cuts too; then these
 unfoldable pub several_outcome : Lent → ℕ → List Float → ℕ → Outcome
 several_outcome l i cs n = cause_or (edge_cuts_cause l i cs n) (turned_away l.slices) (ordered_outcome l i n (rows (cut_at cs) 0 n))

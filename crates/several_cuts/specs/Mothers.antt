@@ -37,6 +37,9 @@ LiesOn p c = p ≡ with_range c (first_of p) (last_of p)
 -- A shell before and after edge i was cut k times. Before it has n edges.
 pub record CutInto (d : Edge) (s after : Shell) (i k : ℕ) : Type 0 where
   pub count : length after.edges ≡ length s.edges + k
+  pub vertices : length after.vertices ≡ length s.vertices + k
+  -- "new vertices .. are numbered along the curve": the edges that are cut off begin at them in order
+  pub numbered : (j : ℕ) → j < k → (edge_in d after (length s.edges + j)).front ≡ length s.vertices + j
   -- every other edge stands
   pub others : (p : ℕ) → p < length s.edges → p ≢ i → edge_in d after p ≡ edge_in d s p
   -- "a chain of pieces from a to b"

@@ -253,9 +253,8 @@ fn line_cut_at(ts: &[f64]) -> (Vec<Piece>, usize, [Wire; 2]) {
     (edges.iter().map(told).collect(), points.len(), mended)
 }
 
-/// Why the port's call of the Rust refuses two cuts: of the three pieces in a
-/// wire none begins where the one before it ends, and vertex 4 of four vertices
-/// is not there.
+/// Why the port's one cut refuses two: of the three pieces in a wire none begins
+/// where the one before it ends, and vertex 4 of four vertices is not there.
 #[test]
 fn two_cuts_come_apart() {
     let (edges, vertices, mended) = line_cut_at(&[0.25, 0.5]);

@@ -1,4 +1,5 @@
-//! Edges and uses around 64, where the port's small local arrays end.
+//! Edges and uses around 64, and uses of the result around 128, where the
+//! port's small local arrays may end.
 
 use super::{done, AT_3, ORIGIN};
 use crate::calls::cut_edge::CutEdge;
@@ -19,8 +20,17 @@ pub fn cases() -> Vec<Case<CutEdge>> {
             Case::unchanged(short, input, 6),
         ]
     };
-    EDGES_AND_USES.into_iter().flat_map(both).collect()
+    let sizes = EDGES_AND_USES.into_iter().chain(USES_OUT);
+    sizes.flat_map(both).collect()
 }
+
+/// More edges than uses, or as many: the last one is used once, and the result
+/// has one use more.
+const USES_OUT: [Around; 3] = [
+    ([128, 126], ["127 uses out", "127 uses out, one too few"]),
+    ([128, 127], ["128 uses out", "128 uses out, one too few"]),
+    ([128, 128], ["129 uses out", "129 uses out, one too few"]),
+];
 
 /// So many lines between two vertices, with the preparations in turn, and so
 /// many uses of them, before and after the last line is cut at 3.

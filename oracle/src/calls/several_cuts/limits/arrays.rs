@@ -1,4 +1,5 @@
-//! Edges and uses around 64, where the port's small local arrays may end.
+//! Edges and uses around 64, and uses of the result around 128, where the
+//! port's small local arrays may end.
 
 use super::{at, done, with_vertices, SeveralCuts};
 use crate::compare::Case;
@@ -18,8 +19,17 @@ pub fn cases() -> Vec<Case<SeveralCuts>> {
             Case::unchanged(short, input, 6),
         ]
     };
-    EDGES_AND_USES.into_iter().flat_map(both).collect()
+    let sizes = EDGES_AND_USES.into_iter().chain(USES_OUT);
+    sizes.flat_map(both).collect()
 }
+
+/// More edges than uses: the last one is used once, and the result has two uses
+/// more.
+const USES_OUT: [Around; 3] = [
+    ([128, 125], ["127 uses out", "127 uses out, one too few"]),
+    ([128, 126], ["128 uses out", "128 uses out, one too few"]),
+    ([128, 127], ["129 uses out", "129 uses out, one too few"]),
+];
 
 /// Where the last line is cut.
 const CUTS: [f64; 2] = [3.0, 5.0];
