@@ -116,6 +116,25 @@ impl CutEdge {
         }
     }
 
+    /// Noise: two cells of cuts and fewer than `cells` more, and a count of cuts
+    /// that is one of `counts` or any.
+    pub(super) fn noisy(random: &mut Random, cells: usize, counts: &[usize]) -> Self {
+        let lent = noise(random);
+        let small = random.once_in(2);
+        let cell = |random: &mut Random| match small && !random.once_in(32) {
+            true => (random.below(4) as f64).to_bits(),
+            false => random.word(),
+        };
+        let cells = 2 + random.below(cells);
+        let [any, other] = [0; 2].map(|_| any_count(random));
+        CutEdge {
+            lent,
+            cuts: (0..cells).map(|_| cell(random)).collect(),
+            edge: random.pick(&[0, 0, 1, any as u32]),
+            cut_count: random.pick(&[counts, &[other]].concat()),
+        }
+    }
+
     /// A call that is done, and the shell that stands there afterwards.
     pub(super) fn done(&self, after: &Shell) -> Expected<Self> {
         let mut expected = self.clone();
@@ -272,20 +291,7 @@ impl Families for CutEdge {
     }
 
     fn noise(random: &mut Random) -> Self {
-        let lent = noise(random);
-        let small = random.once_in(2);
-        let cell = |random: &mut Random| match small && !random.once_in(32) {
-            true => (random.below(4) as f64).to_bits(),
-            false => random.word(),
-        };
-        let cells = 2 + random.below(12);
-        let [any, other] = [0; 2].map(|_| any_count(random));
-        CutEdge {
-            lent,
-            cuts: (0..cells).map(|_| cell(random)).collect(),
-            edge: random.pick(&[0, 0, 1, any as u32]),
-            cut_count: random.pick(&[1, 1, 1, other]),
-        }
+        CutEdge::noisy(random, 12, &[1, 1, 1])
     }
 
     #[cfg(rust_at_hand)]

@@ -6,7 +6,7 @@ use super::cut_edge::{result_counts, CutEdge};
 use super::Families;
 use crate::cells::{Cells, Kind, Slice};
 use crate::compare::{Case, Expected, Input, Lending};
-use crate::inputs::{any_count, any_sizes, damage, lend_for, little_sizes, noise, Sizes};
+use crate::inputs::{any_sizes, damage, lend_for, little_sizes, Sizes};
 use crate::inputs::{float, shell, spoil_float, spoil_one_of};
 use crate::model::cut::CUT;
 use crate::model::several_cuts::{torn, Left};
@@ -315,20 +315,7 @@ impl Families for SeveralCuts {
     }
 
     fn noise(random: &mut Random) -> Self {
-        let lent = noise(random);
-        let small = random.once_in(2);
-        let cell = |random: &mut Random| match small && !random.once_in(32) {
-            true => (random.below(4) as f64).to_bits(),
-            false => random.word(),
-        };
-        let cells = 2 + random.below(16);
-        let [any, other] = [0; 2].map(|_| any_count(random));
-        SeveralCuts(CutEdge {
-            lent,
-            cuts: (0..cells).map(|_| cell(random)).collect(),
-            edge: random.pick(&[0, 0, 1, any as u32]),
-            cut_count: random.pick(&[1, 2, 2, 3, other]),
-        })
+        SeveralCuts(CutEdge::noisy(random, 16, &[1, 2, 2, 3]))
     }
 
     /// From two cuts on the Rust's own call comes apart. Two witnesses say what
