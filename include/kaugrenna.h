@@ -4,8 +4,8 @@
  * The twelve calls of libhealing.a, which `rt lib` in crates/healing writes to
  * crates/healing/out. Each has its contract, which is proved, in
  * crates/healing/src; document 01 is the specification. The archive asks for
- * memcpy, memmove and memset, and for nothing else. This header is C from C89
- * on, where there is a stdint.h, and C++ from C++98 on.
+ * memcpy and memset, and for nothing else. This header is C from C89 on, where
+ * there is a stdint.h, and C++ from C++98 on.
  *
  * Answers. Every call answers 0 for a result, whose values stand in the
  * places lent for them (the `_out` pointers); -1 for "none"; else the number
@@ -21,9 +21,9 @@
  * may overlap each other. A call keeps no pointer, allocates nothing, and may
  * be made from several threads at once on slices of their own.
  *
- * Stack, as measured on x86-64: at most 41 KiB in the pass, 39 in the split, 21
- * in the search, 9 in the join, 5 where one edge is cut, less than 1 in the
- * others.
+ * Stack. The local arrays of a call take at most 40 KiB. As measured on x86-64
+ * a call takes at most 39 KiB in the split, 25 in the pass, 21 in the search, 9
+ * in the join, 5 where one edge is cut, less than 1 in the others.
  * Where a dynamic linker looks up memcpy and the like only when they are
  * first needed, that call took some 3 KiB more.
  *

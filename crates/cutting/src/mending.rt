@@ -1,6 +1,6 @@
 // Wires mended after their edges were cut: `replace_edges` of document 001, and all wires of a call mended in place where there is room.
 
-ghost use Rattle.std.specs.Prelude.{◌≡◌, ℕ, ◌+◌, ◌*◌, ◌/◌, ◌≤◌, ◌<◌, length, get_or, take, IfSome};
+ghost use Rattle.std.specs.Prelude.{◌≡◌, ℕ, ◌+◌, ◌*◌, ◌/◌, ◌≤◌, ◌<◌, length, get_or, take, None, IfSome};
 ghost use Rattle.std.proofs.lemmas.List.Edits.{sets};
 ghost use Rattle.compress.specs.declared.Refusal.TheVariants.{NoRoom};
 ghost use Rattle.compress.specs.Wires.{total, UsesBelow};
@@ -9,10 +9,35 @@ ghost use Rattle.rows.specs.Places.{SameWires};
 ghost use Rattle.checks.specs.Causes.{wires_cause};
 ghost use Rattle.cutting.specs.mending.Parts.{uses_of_parts};
 ghost use Rattle.cutting.specs.mending.Replace.{replace_use, replace_edges, replace_wires};
-ghost use Rattle.cutting.specs.mending.Steps.{AreNumbers, Replaceable, Mended, InPlace};
+ghost use Rattle.cutting.specs.mending.Steps.{AreNumbers, Replaceable, Mended, InPlace, numbers_of};
 
 use compress::Refusal;
 use rows::lent::{Wires, WiresMut};
+
+// The number of an edge, in as many bits as a map of edges gives it. An `Option` of a number has no niche here, so that the pass, whose numbers fit in 16
+// bits, has half of the map that it has with 32, and clears half.
+pub trait EdgeNumber: Copy {
+    ghost number: { Self → ℕ };
+
+    fn number(self) -> u32
+        ensures { result ≡ number self };
+}
+
+impl EdgeNumber for u16 {
+    ghost number = { λ n. n };
+
+    fn number(self) -> u32 {
+        u32::from(self)
+    }
+}
+
+impl EdgeNumber for u32 {
+    ghost number = { λ n. n };
+
+    fn number(self) -> u32 {
+        self
+    }
+}
 
 // What stands in a wire for one use: the use, or it and that of the edge cut off, in their order.
 #[derive(Clone, Copy)]
@@ -54,31 +79,40 @@ fn push(out: &mut [u32], at: usize, p: Parts) -> usize
     }
 }
 
+// The number of the edge that is cut off edge e, by the map.
+fn cut_off<A: EdgeNumber>(added: &[Option<A>], e: usize) -> Option<u32>
+    requires { e < length added.now }
+    ensures { result ≡ get_or (numbers_of A.number added.now) e None }
+{
+    added[e].map(A::number)
+}
+
 // `replace_edges`: the mended wire is written to `out`, and its length is the answer.
-fn replace_edges(wire: &[u32], added: &[Option<u32>], out: &mut [u32]) -> usize
+fn replace_edges<A: EdgeNumber>(wire: &[u32], added: &[Option<A>], out: &mut [u32]) -> usize
     requires wire_in_bounds { length wire.now * 2 ≤ length out.old }
     requires by_index { UsesBelow (length added.now) wire.now }
-    requires by_index_2 { AreNumbers added.now }
-    ensures value { result ≡ length (replace_edges added.now wire.now) }
-    ensures out_after { take result out.new ≡ replace_edges added.now wire.now }
+    requires by_index_2 { AreNumbers (numbers_of A.number added.now) }
+    ensures value { result ≡ length (replace_edges (numbers_of A.number added.now) wire.now) }
+    ensures out_after { take result out.new ≡ replace_edges (numbers_of A.number added.now) wire.now }
 {
     let mut k: usize = 0;
     for &u in wire {
         let e = (u / 2) as usize;
-        k = push(out, k, replace_use(u, added[e]));
+        k = push(out, k, replace_use(u, cut_off(added, e)));
     }
     k
 }
 
 // Every wire is mended: the uses go to `out` and the lengths to `out_lengths`. The answer is the count of uses.
-fn replace_wires(
+fn replace_wires<A: EdgeNumber>(
     wires: &Wires,
-    added: &[Option<u32>],
+    added: &[Option<A>],
     out: &mut [u32],
     out_lengths: &mut [u32],
 ) -> usize
-    requires { Replaceable wires.now.uses.now wires.now.lengths.now wires.now.count added.now out.old out_lengths.old }
-    ensures { Mended (replace_wires added.now (wires_in wires.now)) out.new out_lengths.new result }
+    requires { let w = wires.now in
+        Replaceable w.uses.now w.lengths.now w.count (numbers_of A.number added.now) out.old out_lengths.old }
+    ensures { Mended (replace_wires (numbers_of A.number added.now) (wires_in wires.now)) out.new out_lengths.new result }
 {
     let mut at: usize = 0;
     for (w, wire) in wires.each().enumerate() {
@@ -106,16 +140,16 @@ impl From<NoRoom> for Refusal {
 }
 
 // The wires are mended in place by way of a buffer of N uses, and not at all where there is no room: how many uses they have.
-fn mend_within<const N: usize>(
+fn mend_within<A: EdgeNumber, const N: usize>(
     wires: &mut WiresMut,
-    added: &[Option<u32>],
+    added: &[Option<A>],
     room: bool,
 ) -> Result<usize, NoRoom>
     requires uses_few { (total (take wires.old.count wires.old.lengths.now) * 2 ≤ N) × (N ≤ 2048) }
     requires wires_value { wires_cause (length added.now) wires.old.uses.now wires.old.lengths.now wires.old.count ≡ 0 }
-    requires added_small { AreNumbers added.now }
+    requires added_small { AreNumbers (numbers_of A.number added.now) }
     ensures mended { let w = wires.old in
-        let mended = replace_wires added.now (wires_held w) in
+        let mended = replace_wires (numbers_of A.number added.now) (wires_held w) in
         InPlace mended room w.uses.now w.lengths.now wires.new.uses.now wires.new.lengths.now result }
     ensures same { SameWires wires.old wires.new }
 {
@@ -136,18 +170,22 @@ fn mend_within<const N: usize>(
 // Every wire is mended in place, where there is room for all of them: `room` tells it of the tables, and the uses are judged here.
 // `room` stays an argument: where it is false the count is told all the same. Few uses have a small buffer, since to zero it takes time. That the wires
 // have no cause is asked here and at the two passes, and is no ghost field of `WiresMut`: the wires are written, and then name edges past that count.
-pub fn mend_wires(wires: &mut WiresMut, added: &[Option<u32>], room: bool) -> Result<usize, NoRoom>
+pub fn mend_wires<A: EdgeNumber>(
+    wires: &mut WiresMut,
+    added: &[Option<A>],
+    room: bool,
+) -> Result<usize, NoRoom>
     requires wires_value { wires_cause (length added.now) wires.old.uses.now wires.old.lengths.now wires.old.count ≡ 0 }
-    requires added_small { AreNumbers added.now }
+    requires added_small { AreNumbers (numbers_of A.number added.now) }
     ensures mended { let w = wires.old in
-        let mended = replace_wires added.now (wires_held w) in
+        let mended = replace_wires (numbers_of A.number added.now) (wires_held w) in
         InPlace mended room w.uses.now w.lengths.now wires.new.uses.now wires.new.lengths.now result }
     ensures same { SameWires wires.old wires.new }
 {
     let lent = wires.view();
     if lent.total_uses() <= 64 {
-        mend_within::<128>(wires, added, room)
+        mend_within::<A, 128>(wires, added, room)
     } else {
-        mend_within::<2048>(wires, added, room)
+        mend_within::<A, 2048>(wires, added, room)
     }
 }

@@ -135,10 +135,13 @@ pub fn uses_fit(uses: &[u32], n: usize) -> bool
 
 // ---- runs of numbers
 
-// The numbers of `from` are written over the front of `to`: a name for std's two calls, with the clause that its callers cite.
+// The numbers of `from` are written over the front of `to`. A loop and no `copy_from_slice`: where the compiler can't see that two slices lie apart, that
+// calls memmove, and hosts link memcpy and memset alone.
 pub fn copy(from: &[u32], to: &mut [u32])
     requires { length from.now ≤ length to.old }
     ensures { to.new ≡ from.now ++ drop (length from.now) to.old }
 {
-    to[..from.len()].copy_from_slice(from);
+    for i in 0..from.len() {
+        to[i] = from[i];
+    }
 }

@@ -86,13 +86,13 @@ pub fn add_edges(vertices: &mut TableMut<Vertex>, edges: &mut TableMut<Edge>, k:
 // The map that `add_edges` gives: for each edge the number of the edge that is cut off it, and nothing where it is not closed.
 // The answer is how many are closed.
 // Of the edges the numbers are read, and lent as a table all the same: alone they would have a count beside them again.
-pub fn mark_closed(edges: &Table<Edge>, added: &mut [Option<u32>]) -> usize
+pub fn mark_closed(edges: &Table<Edge>, added: &mut [Option<u16>]) -> usize
     requires { let e = edges.now in
         (e.count ≤ 4096) × (e.count * numbers_per_edge ≤ length e.numbers.now) × (e.count ≤ length added.old) }
     ensures { (fs : List Float) → Marked (rows (edge_at edges.now.numbers.now fs) 0 edges.now.count) added.old added.new result }
 {
     let count = edges.count;
-    let mut m = count as u32;
+    let mut m = count as u16;
     // Written by number: over a zip with `iter_mut` the proof did not close, since what the loop wrote is not known after it.
     for (i, row) in edges.numbers[..count * NUMBERS_PER_EDGE]
         .chunks_exact(NUMBERS_PER_EDGE)
@@ -100,7 +100,7 @@ pub fn mark_closed(edges: &Table<Edge>, added: &mut [Option<u32>]) -> usize
     {
         let cut = row[0] == row[1];
         added[i] = cut.then_some(m);
-        m += u32::from(cut);
+        m += u16::from(cut);
     }
     m as usize - count
 }

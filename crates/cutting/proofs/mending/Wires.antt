@@ -7,11 +7,24 @@ use Prim.Native.Nat.{ℕ, ◌+◌, ◌*◌, ◌/◌, ◌≤◌, ◌<◌}
 use native.Mathlib.Numerals.{add-one}
 use native.Mathlib.Omega.{arith}
 use Rattle.std.specs.Prelude.{Option, Some, None}
+use Rattle.std.specs.Option.{option_map}
+use Rattle.std.proofs.lemmas.List.{length-map}
+use Rattle.std.proofs.lemmas.Iterator.Adapters.{option_map_id}
 use lib.ListN.{length, get_or, take, drop, length-append}
 use lib.Seq.{sets, length-sets, drop-cons, drop-length, length-take-le}
 use Rattle.compress.specs.Records.{forward}
 use Rattle.compress.proofs.Cells.{take_sets}
 use Rattle.cutting.specs.mending.Replace.{replaced_by, replace_use, replace_edges}
+use Rattle.cutting.specs.mending.Steps.{numbers_of}
+
+-- a map as numbers has as many entries
+pub length_numbers : {A : Type 0} (number : A → ℕ) (added : List (Option A)) → length (numbers_of number added) ≡ length added
+length_numbers number added = length-map added (option_map number)
+
+-- of a map of numbers it is the map
+pub numbers_same : (added : List (Option ℕ)) → numbers_of (λ n. n) added ≡ added
+numbers_same [] = refl
+numbers_same (m ∷ ms) = rw (option_map_id m, numbers_same ms) refl
 
 -- a use becomes one or two
 by_small : (f : Bool) (u new : ℕ) → length (replaced_by f u new) ≤ 2

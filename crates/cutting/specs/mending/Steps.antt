@@ -1,9 +1,14 @@
 -- What the mending of wires asks and leaves. Definitions only.
-use Rattle.std.specs.Prelude.{◌≡◌, Bool, ◌&&◌, Option, None, IfSome, Result, Ok, Err, is_ok, List, ℕ, ◌*◌, ◌/◌, ◌≤◌, ◌<◌, length, get_or, take}
+use Rattle.std.specs.Prelude.{◌≡◌, Bool, ◌&&◌, Option, None, IfSome, Result, Ok, Err, is_ok, List, map, ℕ, ◌*◌, ◌/◌, ◌≤◌, ◌<◌, length, get_or, take}
+use Rattle.std.specs.Option.{option_map}
 use Rattle.compress.specs.Records.{pick}
 use Rattle.compress.specs.Shell.{uses_fit}
 use Rattle.compress.specs.Wires.{total, uses_of, lengths_of, over}
 use Rattle.cutting.specs.declared.mending.NoRoom.{NoRoom}
+
+-- a map of edges as numbers, where its entries hold these in a type of their own
+abbrev pub numbers_of : {A : Type 0} → (A → ℕ) → List (Option A) → List (Option ℕ)
+numbers_of number added = map (option_map number) added
 
 -- each entry that is there is the number of an edge, which a use can name: a clause of four functions of this crate, of one by `Replaceable`, and no type,
 -- which two callers would make to have it taken apart

@@ -1,6 +1,7 @@
 use Rattle.std.proofs.Common.{ℕ, ◌≤◌, length, arith, sym, length-take-le}
 use lib.ListN.{length-replicate}
 use Rattle.checks.proofs.Accepted.{wires_accepted}
+use Rattle.cutting.proofs.mending.Wires.{length_numbers}
 use Rattle.cutting.proofs.mending.Mending.{replaceable, mended_within, fits_in, in_place, left}
 use Rattle.cutting.proofs.mending.mend_within.Goals as goal
 
@@ -8,7 +9,7 @@ pub replace_wires-n-requires : goal.replace_wires-n-requires
 replace_wires-n-requires g c =
     let v = c.view-lent.ensures in
     rw (v.uses_value, v.lengths_value, v.count_value)
-    (replaceable _ _ _ _ _ _ c.requires.wires_value c.requires.added_small (omega (arith, c.requires.uses_few, length-replicate {A = ℕ} g.row.N 0)) (omega arith))
+    (replaceable _ _ _ _ _ _ (rw (← length_numbers g.A.EdgeNumber.number c.args.added.now) at c.requires.wires_value) c.requires.added_small (omega (arith, c.requires.uses_few, length-replicate {A = ℕ} g.row.N 0)) (omega arith))
 
 pub returns-then-not-fits-clause-mended : goal.returns-then-not-fits-clause-mended
 returns-then-not-fits-clause-mended g c =
