@@ -3,6 +3,7 @@
 #![tactic(auto)]
 
 use compress::{NUMBERS_PER_EDGE, Refusal, Uv};
+use printing::Onward;
 use rows::lent::{Stretch, Wires, WiresMut};
 use rows::tables::{Table, TableMut};
 use split::seams::Divisor;
@@ -131,7 +132,7 @@ fn write_cases(rt: &impl Print) -> io::Result<()> {
     Ok(())
 }
 
-// A write that fails ends the program, and is not told.
+// A line that cannot be written is passed over, and is not told; those behind it are still written.
 fn main(rt: HostRuntime) {
-    let _ = write_cases(&rt);
+    let _ = write_cases(&Onward(rt));
 }

@@ -10,6 +10,7 @@ mod pipe_seam;
 mod pipe_words;
 
 use pipe_shell::{Shell, Stop, pipe_tally, writing};
+use printing::Onward;
 use std::io;
 use std::process::ExitCode;
 
@@ -39,7 +40,7 @@ fn heal(rt: &impl Print, k: u32) -> Result<(), Stop> {
     Ok(())
 }
 
-// A write that fails ends the way, and is not told.
+// The way, with the line above it. It ends where the printer answers an error, as that of `main` never does.
 fn write_way(rt: &impl Print, k: u32) -> io::Result<()> {
     println!(rt; "burner pipe, radius 1, height 4:")?;
     match heal(rt, k) {
@@ -53,6 +54,7 @@ fn main(rt: HostRuntime) -> ExitCode {
         let _ = eprintln!(rt; "usage: pipe [k=N] (N from 1 to 7)");
         return ExitCode::from(2);
     };
-    let _ = write_way(&rt, k);
+    // What cannot be written is passed over, and is not told; what stands behind it is still written.
+    let _ = write_way(&Onward(rt), k);
     ExitCode::SUCCESS
 }

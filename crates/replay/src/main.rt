@@ -17,6 +17,7 @@ ghost use Rattle.std.specs.Prelude.{◌≡◌, OnErr};
 ghost use Rattle.stored.specs.Compared.{Compares};
 
 use crate::replay_numbers::sorting;
+use printing::Onward;
 use replay_tally::{Part, Run};
 use stored::{Damaged, Reader};
 
@@ -79,7 +80,7 @@ fn write_replay(rt: &impl Print) -> std::io::Result<()> {
     }
 }
 
-// A write that fails ends the program, and is not told.
+// A line that cannot be written is passed over, and is not told; those behind it are still written.
 fn main(rt: HostRuntime) {
-    let _ = write_replay(&rt);
+    let _ = write_replay(&Onward(rt));
 }
