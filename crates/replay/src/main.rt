@@ -18,33 +18,48 @@ ghost use Rattle.stored.specs.Compared.{Compares};
 
 use crate::replay_numbers::sorting;
 use printing::Onward;
+use replay_split::Lent;
 use replay_tally::{Part, Run};
+use stored::stored_cells::Buffer;
+use stored::stored_records::tables::Shell;
 use stored::{Damaged, Reader};
+
+// How many bytes of the list are at hand. What is left of them moves to the front where the next record may not be whole, and that may have 61,440:
+// with as many bytes as those and a few the move would take longer than the calls.
+const BUFFER: usize = 98304;
+
+// The buffers that records are read into, made once for the run: a shell or parts of it, floats beside it, and what a split is lent.
+#[derive(Clone, Copy, Default)]
+struct Buffers {
+    shell: Shell,
+    floats: Buffer<f64>,
+    lent: Lent,
+}
 
 // Replays the call with this number. A list with any other number is damaged.
 // The number is matched here, since each arm reads another record. The names in `replay_tally` are in this order: an enum of the calls
 // with TryFrom and Display would be four lists of eleven in place of the two. No table of functions: none may take a `Reader`, which holds a reference.
-fn replay(list: &mut Reader<'_>, number: u64) -> Result<(), Damaged>
+fn replay(list: &mut Reader<'_>, b: &mut Buffers, number: u64) -> Result<(), Damaged>
     ensures compares { Compares list.old list.new }
 {
     match number {
-        1 => replay_pass::replay_pass(list),
+        1 => replay_pass::replay_pass(list, &mut b.shell),
         2 => replay_numbers::replay_unwrap(list),
         3 => replay_numbers::replay_copy(list),
         4 => replay_numbers::replay_kind(list),
-        5 => sorting::replay_sort(list),
-        6 => replay_search::replay_correction(list),
-        7 => replay_search::replay_divisor(list),
-        8 => replay_cut::replay_cut(list),
-        9 => replay_join::replay_join(list),
-        10 => replay_split::replay_split(list),
-        11 => replay_cut::replay_cuts(list),
+        5 => sorting::replay_sort(list, &mut b.floats, &mut b.shell.wires),
+        6 => replay_search::replay_correction(list, &mut b.shell),
+        7 => replay_search::replay_divisor(list, &mut b.shell),
+        8 => replay_cut::replay_cut(list, &mut b.shell, &mut b.floats),
+        9 => replay_join::replay_join(list, &mut b.shell, &mut b.lent.face),
+        10 => replay_split::replay_split(list, &mut b.shell, &mut b.lent),
+        11 => replay_cut::replay_cuts(list, &mut b.shell, &mut b.floats),
         _ => Err(Damaged),
     }
 }
 
 // Reads on in the list, and replays the next record. Where the list is damaged nothing is counted.
-fn step(list: &mut Reader<'_>, run: &mut Run) -> Result<(), Damaged>
+fn step(list: &mut Reader<'_>, b: &mut Buffers, run: &mut Run) -> Result<(), Damaged>
     ensures { OnErr result (run.new ≡ run.old) }
 {
     list.refill()?;
@@ -53,28 +68,29 @@ fn step(list: &mut Reader<'_>, run: &mut Run) -> Result<(), Damaged>
         run.end_list();
         return Ok(());
     }
-    replay(list, number)?;
+    replay(list, b, number)?;
     run.count(number, list.is_same);
     Ok(())
 }
 
 // Replays both lists.
 // The turns have a number, which no run uses up: a proved loop has to end, and `forever` brings the bound Wait, which is not allowed here.
-fn replay_lists(list: &mut Reader<'_>, run: &mut Run) -> Result<(), Damaged> {
+fn replay_lists(list: &mut Reader<'_>, b: &mut Buffers, run: &mut Run) -> Result<(), Damaged> {
     for _ in 0..u64::MAX {
         if run.part == Part::Ended {
             break;
         }
-        step(list, run)?;
+        step(list, b, run)?;
     }
     Ok(())
 }
 
 // Replays the lists, and writes the tallies, or where the list is damaged.
 fn write_replay(rt: &impl Print) -> std::io::Result<()> {
-    let mut buf = io::large_buffer();
+    let mut buf = [0; BUFFER];
+    let mut buffers = Buffers::default();
     let mut run = Run::new();
-    match replay_lists(&mut Reader::new(&mut buf), &mut run) {
+    match replay_lists(&mut Reader::new(&mut buf), &mut buffers, &mut run) {
         Ok(()) => run.write(rt),
         Err(Damaged) => run.write_damage(rt),
     }

@@ -58,25 +58,33 @@ fn cut_at_points(c: Counts, a: Asked, s: &mut Shell, cuts: &Buffer<f64>) -> Answ
 }
 
 // Replays cut_edge_by_intersections.
-pub fn replay_cut(list: &mut Reader<'_>) -> Result<(), Damaged>
+pub fn replay_cut(
+    list: &mut Reader<'_>,
+    shell: &mut Shell,
+    cuts: &mut Buffer<f64>,
+) -> Result<(), Damaged>
     ensures compares { Compares list.old list.new }
 {
     let counts = Counts::read(list)?;
     let asked = Asked::read(list)?;
-    let mut shell = Shell::read(list)?;
-    let cuts = Buffer::read(list)?;
-    cut(counts, asked, &mut shell, &cuts).compare(list)?;
+    shell.read(list)?;
+    cuts.read(list)?;
+    cut(counts, asked, shell, cuts).compare(list)?;
     shell.compare(list)
 }
 
 // Replays cut_edge_at_points, whose records are as those of cut_edge_by_intersections.
-pub fn replay_cuts(list: &mut Reader<'_>) -> Result<(), Damaged>
+pub fn replay_cuts(
+    list: &mut Reader<'_>,
+    shell: &mut Shell,
+    cuts: &mut Buffer<f64>,
+) -> Result<(), Damaged>
     ensures compares { Compares list.old list.new }
 {
     let counts = Counts::read(list)?;
     let asked = Asked::read(list)?;
-    let mut shell = Shell::read(list)?;
-    let cuts = Buffer::read(list)?;
-    cut_at_points(counts, asked, &mut shell, &cuts).compare(list)?;
+    shell.read(list)?;
+    cuts.read(list)?;
+    cut_at_points(counts, asked, shell, cuts).compare(list)?;
     shell.compare(list)
 }

@@ -2,7 +2,7 @@
 
 ghost use Rattle.stored.specs.Compared.{Compares, Keeps};
 
-use records::{Counts, Pair, Table};
+use records::{Counts, Pair, Shell};
 use rows::lent::Stretch;
 use stored::stored_cells::Cell;
 use stored::stored_records::answers::Answer;
@@ -39,7 +39,7 @@ impl Ends {
 }
 
 // Makes the call, which writes to the wires.
-fn joined(c: Counts, a: Ends, e: &Table, o: &Pair, w: &mut Pair) -> Answer<usize, 1> {
+fn joined(c: Counts, a: Ends, s: &mut Shell, o: &Pair) -> Answer<usize, 1> {
     let first = Stretch {
         uses: o.first.cells(),
         count: a.first,
@@ -50,10 +50,10 @@ fn joined(c: Counts, a: Ends, e: &Table, o: &Pair, w: &mut Pair) -> Answer<usize
     };
     let made = join::connect_open_boundaries(
         c.vertices,
-        &e.lent(c.edges),
+        &s.edges.lent(c.edges),
         &first,
         &second,
-        &mut w.lent_mut(a.wires),
+        &mut s.wires.lent_mut(a.wires),
         a.v0,
         a.v1,
     );
@@ -61,14 +61,14 @@ fn joined(c: Counts, a: Ends, e: &Table, o: &Pair, w: &mut Pair) -> Answer<usize
 }
 
 // Replays connect_open_boundaries.
-pub fn replay_join(list: &mut Reader<'_>) -> Result<(), Damaged>
+pub fn replay_join(list: &mut Reader<'_>, shell: &mut Shell, open: &mut Pair) -> Result<(), Damaged>
     ensures compares { Compares list.old list.new }
 {
     let counts = Counts::read(list)?;
     let ends = Ends::read(list)?;
-    let edges = Table::read(list)?;
-    let open = Pair::read(list)?;
-    let mut wires = Pair::read(list)?;
-    joined(counts, ends, &edges, &open, &mut wires).compare(list)?;
-    wires.compare(list)
+    shell.edges.read(list)?;
+    open.read(list)?;
+    shell.wires.read(list)?;
+    joined(counts, ends, shell, open).compare(list)?;
+    shell.wires.compare(list)
 }

@@ -40,13 +40,13 @@ fn divisor(c: Counts, wires: usize, s: &Shell) -> Answer<u32, 2> {
 }
 
 // Replays find_non_simple_wire_divisor.
-pub fn replay_divisor(list: &mut Reader<'_>) -> Result<(), Damaged>
+pub fn replay_divisor(list: &mut Reader<'_>, shell: &mut Shell) -> Result<(), Damaged>
     ensures compares { Compares list.old list.new }
 {
     let counts = Counts::read(list)?;
     let wires = usize::next(list)?;
-    let shell = Shell::read(list)?;
-    divisor(counts, wires, &shell).compare(list)
+    shell.read(list)?;
+    divisor(counts, wires, shell).compare(list)
 }
 
 // ---- nearest_correction
@@ -76,11 +76,11 @@ fn correction(c: Counts, a: Start, s: &Shell) -> Answer<u32, 2> {
 }
 
 // Replays nearest_correction.
-pub fn replay_correction(list: &mut Reader<'_>) -> Result<(), Damaged>
+pub fn replay_correction(list: &mut Reader<'_>, shell: &mut Shell) -> Result<(), Damaged>
     ensures compares { Compares list.old list.new }
 {
     let counts = Counts::read(list)?;
     let start = Start::read(list)?;
-    let shell = Shell::read(list)?;
-    correction(counts, start, &shell).compare(list)
+    shell.read(list)?;
+    correction(counts, start, shell).compare(list)
 }

@@ -2,7 +2,7 @@
 
 ghost use Rattle.stored.specs.Compared.{Compares, Keeps};
 
-use records::{Counts, Pair, Table};
+use records::{Counts, Pair, Shell, Table};
 use split::seams::Divisor;
 use stored::stored_cells::Cell;
 use stored::stored_records::answers::Answer;
@@ -18,14 +18,12 @@ struct Asked {
     surface: u32,
 }
 
-// The buffers that the call is lent: the edges, the wires of the face, those to be rebuilt, the divisor, and the wires that are built.
-#[derive(Drop)]
-struct Lent {
-    edges: Table,
-    face: Pair,
-    rebuilt: Pair,
-    divisor: Table,
-    wires: Pair,
+// What the call is lent beside the edges and the wires that it builds: the wires of the face, those to be rebuilt, and the divisor.
+#[derive(Clone, Copy, Default)]
+pub struct Lent {
+    pub face: Pair,
+    pub rebuilt: Pair,
+    pub divisor: Table,
 }
 
 impl Asked {
@@ -46,26 +44,17 @@ impl Asked {
 }
 
 impl Lent {
-    fn read(list: &mut Reader<'_>) -> Result<Lent, Damaged>
+    fn read(&mut self, list: &mut Reader<'_>) -> Result<(), Damaged>
         ensures keeps { Keeps list.old list.new }
     {
-        let edges = Table::read(list)?;
-        let face = Pair::read(list)?;
-        let rebuilt = Pair::read(list)?;
-        let divisor = Table::read(list)?;
-        let wires = Pair::read(list)?;
-        Ok(Lent {
-            edges,
-            face,
-            rebuilt,
-            divisor,
-            wires,
-        })
+        self.face.read(list)?;
+        self.rebuilt.read(list)?;
+        self.divisor.read(list)
     }
 }
 
 // Makes the call, which writes to the edges and the wires.
-fn divided(c: Counts, a: Asked, b: &mut Lent) -> Answer<usize, 3> {
+fn divided(c: Counts, a: Asked, s: &mut Shell, b: &Lent) -> Answer<usize, 3> {
     let divisor = Divisor {
         vertices: b.divisor.first.cells(),
         points: b.divisor.second.cells(),
@@ -73,25 +62,31 @@ fn divided(c: Counts, a: Asked, b: &mut Lent) -> Answer<usize, 3> {
     };
     let made = split::split_boundaries_by_divisor(
         c.vertices,
-        &mut b.edges.lent_mut(c.edges),
+        &mut s.edges.lent_mut(c.edges),
         &b.face.lent(a.face),
         &b.rebuilt.lent(a.rebuilt),
         &divisor,
-        b.wires.first.cells_mut(),
-        b.wires.second.cells_mut(),
+        s.wires.first.cells_mut(),
+        s.wires.second.cells_mut(),
         a.surface,
     );
     Answer::from(made.map(|b| [b.wires, b.uses, b.edges]))
 }
 
 // Replays split_boundaries_by_divisor.
-pub fn replay_split(list: &mut Reader<'_>) -> Result<(), Damaged>
+pub fn replay_split(
+    list: &mut Reader<'_>,
+    shell: &mut Shell,
+    lent: &mut Lent,
+) -> Result<(), Damaged>
     ensures compares { Compares list.old list.new }
 {
     let counts = Counts::read(list)?;
     let asked = Asked::read(list)?;
-    let mut buffers = Lent::read(list)?;
-    divided(counts, asked, &mut buffers).compare(list)?;
-    buffers.edges.compare(list)?;
-    buffers.wires.compare(list)
+    shell.edges.read(list)?;
+    lent.read(list)?;
+    shell.wires.read(list)?;
+    divided(counts, asked, shell, lent).compare(list)?;
+    shell.edges.compare(list)?;
+    shell.wires.compare(list)
 }

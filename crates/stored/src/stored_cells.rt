@@ -1,12 +1,11 @@
 // Numbers, floats and buffers of them: read from the list, and compared with what stands there.
 
-ghost use Rattle.std.specs.Prelude.{◌≡◌, ◌≤◌, ℕ, Bool, eqb, length, IfOk, OnOk};
-ghost use Rattle.arrayvec.specs.ArrayVec.{array_vec_len};
+ghost use Rattle.std.specs.Prelude.{◌≡◌, ◌++◌, ◌∷◌, [], ◌+◌, ◌≤◌, ◌<◌, ℕ, Bool, eqb, length, OnOk, ⊤};
 ghost use Rattle.stored.specs.Compared.{Compares, Keeps, Tested};
 ghost use Rattle.stored.specs.stored_cells.Floats.{has_pattern};
 
 use crate::{Damaged, MOST, Reader};
-use arrayvec::ArrayVec;
+use std::alloc::AllocError;
 use std::num::f64_from_bits_with_nan;
 
 // What a cell of a buffer holds: it stands in one word of the list.
@@ -24,10 +23,11 @@ pub trait Cell: Copy + Default {
         ensures tested { OnOk result (Tested (has_word self) list.old list.new) };
 }
 
-// A buffer of a call.
-#[derive(Drop)]
+// A buffer of a call: the first `count` cells. What lies behind them is of a record before.
 pub struct Buffer<T> {
-    pub items: ArrayVec<T, MOST>,
+    pub cells: [T; MOST],
+    pub count: usize,
+    pub ghost bound: { count ≤ 512 },
 }
 
 // ---- floats
@@ -87,42 +87,81 @@ impl Cell for usize {
 
 // ---- buffers
 
+// By hand, as the check derives no Clone here: of each T, and beside a ghost field.
+impl<T: Copy> Clone for Buffer<T> {
+    ghost is_clone = { λ b c. c ≡ b };
+
+    ghost is_infallible = { λ _. ⊤ };
+
+    fn clone(&self) -> Result<Buffer<T>, AllocError> {
+        Ok(*self)
+    }
+}
+
+impl<T: Copy> Copy for Buffer<T> {}
+
+// The buffer with no cells.
+impl<T: Cell> Default for Buffer<T> {
+    ghost is_default = { λ b. b.count ≡ 0 };
+
+    fn default() -> Buffer<T> {
+        Buffer {
+            cells: Default::default(),
+            count: 0,
+        }
+    }
+}
+
 impl<T: Cell> Buffer<T> {
-    // Reads a buffer of so many cells.
-    pub fn fill(list: &mut Reader<'_>, count: usize) -> Result<Buffer<T>, Damaged>
+    ghost use Rattle.stored.specs.stored_cells.Buffers.{cells_of};
+
+    // One more cell.
+    fn push(&mut self, cell: T)
+        requires { self.old.count < 512 }
+        ensures cells_value { cells_of self.new ≡ cells_of self.old ++ cell ∷ [] }
+        ensures count_value { self.new.count ≡ self.old.count + 1 }
+    {
+        self.cells[self.count] = cell;
+        self.count += 1;
+    }
+
+    // Reads so many cells, in place of those that were there.
+    pub fn fill(&mut self, list: &mut Reader<'_>, count: usize) -> Result<(), Damaged>
         requires { count ≤ 512 }
-        ensures count_value { IfOk result (λ b. array_vec_len b.items ≡ count) }
+        ensures count_value { OnOk result (self.new.count ≡ count) }
         ensures keeps { Keeps list.old list.new }
     {
-        let mut items = ArrayVec::new();
+        self.count = 0;
         for _ in 0..count {
-            items.push(T::next(list)?);
+            self.push(T::next(list)?);
         }
-        Ok(Buffer { items })
+        Ok(())
     }
 
     // Reads a length and as many cells.
-    pub fn read(list: &mut Reader<'_>) -> Result<Buffer<T>, Damaged>
+    pub fn read(&mut self, list: &mut Reader<'_>) -> Result<(), Damaged>
         ensures keeps { Keeps list.old list.new }
     {
         let count = list.next_length()?;
-        Buffer::fill(list, count)
+        self.fill(list, count)
     }
 
     // The cells.
     pub fn cells(&self) -> &[T]
-        ensures value { result.now ≡ self.now.items.items }
+        ensures value { result.now ≡ cells_of self.now }
         ensures bound { length result.now ≤ 512 }
     {
-        self.items.as_slice()
+        &self.cells[..self.count]
     }
 
     // The cells, to be written.
     pub fn cells_mut(&mut self) -> &mut [T]
-        ensures value { result.now ≡ self.old.items.items }
+        ensures value { result.now ≡ cells_of self.old }
         ensures bound { length result.now ≤ 512 }
     {
-        self.items.as_mut_slice()
+        let count = self.count;
+        let cells = &mut self.cells;
+        &mut cells[..count]
     }
 
     // Compares a buffer with the list.

@@ -21,12 +21,16 @@ fn sort(wires: usize, ends: &Buffer<f64>, w: &mut Pair) -> Answer<usize, 1> {
 }
 
 // Replays sort_wires.
-pub fn replay_sort(list: &mut Reader<'_>) -> Result<(), Damaged>
+pub fn replay_sort(
+    list: &mut Reader<'_>,
+    ends: &mut Buffer<f64>,
+    sorted: &mut Pair,
+) -> Result<(), Damaged>
     ensures compares { Compares list.old list.new }
 {
     let wires = usize::next(list)?;
-    let ends = Buffer::read(list)?;
-    let mut sorted = Pair::read(list)?;
-    sort(wires, &ends, &mut sorted).compare(list)?;
+    ends.read(list)?;
+    sorted.read(list)?;
+    sort(wires, ends, sorted).compare(list)?;
     sorted.compare(list)
 }

@@ -13,7 +13,7 @@ const NONE: u64 = u64::MAX;
 
 // 0 with what the call told, or "none" or the number of the refusal with zeros. No enum: these are the words of the stored list, which has
 // zeros for what a call has not told.
-#[derive(Drop)]
+#[derive(Clone, Copy)]
 pub struct Answer<T, const N: usize> {
     pub number: u64,
     pub told: [T; N],

@@ -1,5 +1,5 @@
 // The buffers that calls share: a table of rows, two buffers of numbers, and the tables and wires of a shell.
-ghost use Rattle.std.specs.Prelude.{◌≡◌, ◌≤◌};
+ghost use Rattle.std.specs.Prelude.{◌≡◌, ◌≤◌, OnOk};
 ghost use Rattle.stored.specs.Compared.{Compares, Keeps};
 
 use crate::stored_cells::{Buffer, Cell};
@@ -18,7 +18,7 @@ pub struct Counts {
 }
 
 // The lengths of two buffers.
-#[derive(Drop)]
+#[derive(Clone, Copy)]
 pub struct Lengths {
     pub first: usize,
     pub second: usize,
@@ -26,7 +26,8 @@ pub struct Lengths {
 }
 
 // Two buffers.
-#[derive(Drop)]
+#[derive_where(Clone, Copy; A: Copy, B: Copy)]
+#[derive_where(Default; A: Cell, B: Cell)]
 pub struct Buffers<A, B> {
     pub first: Buffer<A>,
     pub second: Buffer<B>,
@@ -39,7 +40,7 @@ pub type Table = Buffers<u32, f64>;
 pub type Pair = Buffers<u32, u32>;
 
 // The two tables of a shell, and its wires or two stretches of uses.
-#[derive(Drop)]
+#[derive(Clone, Copy, Default)]
 pub struct Shell {
     pub vertices: Table,
     pub edges: Table,
@@ -67,22 +68,22 @@ impl Lengths {
 }
 
 impl<A: Cell, B: Cell> Buffers<A, B> {
-    // Reads two buffers, the length of each before its cells.
-    pub fn read(list: &mut Reader<'_>) -> Result<Buffers<A, B>, Damaged>
+    // Reads both buffers, the length of each before its cells.
+    pub fn read(&mut self, list: &mut Reader<'_>) -> Result<(), Damaged>
         ensures keeps { Keeps list.old list.new }
     {
-        let first = Buffer::read(list)?;
-        let second = Buffer::read(list)?;
-        Ok(Buffers { first, second })
+        self.first.read(list)?;
+        self.second.read(list)
     }
 
-    // Reads two buffers of these lengths.
-    pub fn fill(list: &mut Reader<'_>, n: Lengths) -> Result<Buffers<A, B>, Damaged>
+    // Reads the cells of both buffers, which have these lengths.
+    pub fn fill(&mut self, list: &mut Reader<'_>, n: Lengths) -> Result<(), Damaged>
+        ensures first_count { OnOk result (self.new.first.count ≡ n.first) }
+        ensures second_count { OnOk result (self.new.second.count ≡ n.second) }
         ensures keeps { Keeps list.old list.new }
     {
-        let first = Buffer::fill(list, n.first)?;
-        let second = Buffer::fill(list, n.second)?;
-        Ok(Buffers { first, second })
+        self.first.fill(list, n.first)?;
+        self.second.fill(list, n.second)
     }
 
     // Compares both buffers with the list.
@@ -95,10 +96,12 @@ impl<A: Cell, B: Cell> Buffers<A, B> {
 }
 
 impl Table {
+    ghost use Rattle.stored.specs.stored_cells.Buffers.{cells_of};
+
     // The table as it is lent to a call, said to have `count` rows.
     pub fn lent<R: Row>(&self, count: usize) -> rows::tables::Table<'_, R>
-        ensures numbers_value { result.numbers.now ≡ self.now.first.items.items }
-        ensures floats_value { result.floats.now ≡ self.now.second.items.items }
+        ensures numbers_value { result.numbers.now ≡ cells_of self.now.first }
+        ensures floats_value { result.floats.now ≡ cells_of self.now.second }
         ensures count_value { result.count ≡ count }
     {
         rows::tables::Table::new(self.first.cells(), self.second.cells(), count)
@@ -106,8 +109,8 @@ impl Table {
 
     // The same, to be written.
     pub fn lent_mut<R: Row>(&mut self, count: usize) -> TableMut<'_, R>
-        ensures numbers_value { result.numbers.now ≡ self.old.first.items.items }
-        ensures floats_value { result.floats.now ≡ self.old.second.items.items }
+        ensures numbers_value { result.numbers.now ≡ cells_of self.old.first }
+        ensures floats_value { result.floats.now ≡ cells_of self.old.second }
         ensures count_value { result.count ≡ count }
     {
         TableMut::new(self.first.cells_mut(), self.second.cells_mut(), count)
@@ -115,10 +118,12 @@ impl Table {
 }
 
 impl Pair {
+    ghost use Rattle.stored.specs.stored_cells.Buffers.{cells_of};
+
     // The wires as they are lent to a call, said to be `count`.
     pub fn lent(&self, count: usize) -> Wires<'_>
-        ensures uses_value { result.uses.now ≡ self.now.first.items.items }
-        ensures lengths_value { result.lengths.now ≡ self.now.second.items.items }
+        ensures uses_value { result.uses.now ≡ cells_of self.now.first }
+        ensures lengths_value { result.lengths.now ≡ cells_of self.now.second }
         ensures count_value { result.count ≡ count }
     {
         Wires {
@@ -130,8 +135,8 @@ impl Pair {
 
     // The same, to be written.
     pub fn lent_mut(&mut self, count: usize) -> WiresMut<'_>
-        ensures uses_value { result.uses.now ≡ self.old.first.items.items }
-        ensures lengths_value { result.lengths.now ≡ self.old.second.items.items }
+        ensures uses_value { result.uses.now ≡ cells_of self.old.first }
+        ensures lengths_value { result.lengths.now ≡ cells_of self.old.second }
         ensures count_value { result.count ≡ count }
     {
         WiresMut {
@@ -143,17 +148,12 @@ impl Pair {
 }
 
 impl Shell {
-    pub fn read(list: &mut Reader<'_>) -> Result<Shell, Damaged>
+    pub fn read(&mut self, list: &mut Reader<'_>) -> Result<(), Damaged>
         ensures keeps { Keeps list.old list.new }
     {
-        let vertices = Table::read(list)?;
-        let edges = Table::read(list)?;
-        let wires = Pair::read(list)?;
-        Ok(Shell {
-            vertices,
-            edges,
-            wires,
-        })
+        self.vertices.read(list)?;
+        self.edges.read(list)?;
+        self.wires.read(list)
     }
 
     // Compares the shell with the list.
