@@ -113,7 +113,9 @@ impl<T: Cell> Default for Buffer<T> {
 }
 
 impl<T: Cell> Buffer<T> {
+    ghost use Rattle.std.specs.Borrow.{sem};
     ghost use Rattle.stored.specs.stored_cells.Buffers.{cells_of};
+    ghost use Rattle.stored.specs.stored_cells.Lent.{lends_cells};
 
     // One more cell.
     fn push(&mut self, cell: T)
@@ -156,6 +158,7 @@ impl<T: Cell> Buffer<T> {
 
     // The cells, to be written.
     pub fn cells_mut(&mut self) -> &mut [T]
+        ensures* writes_back { sem 𝓛 (lends_cells T.row self.entry result) }
         ensures value { result.now ≡ cells_of self.old }
         ensures bound { length result.now ≤ 512 }
     {
