@@ -24,11 +24,12 @@ use stored::stored_cells::Buffer;
 use stored::stored_records::tables::Shell;
 use stored::{Damaged, Reader};
 
-// How many bytes of the list are at hand. What is left of them moves to the front where the next record may not be whole, and that may have 61,440:
-// with as many bytes as those and a few the move would take longer than the calls.
+// How many bytes of the list are at hand: the 61,440 that a record may have, and more than half as many again. What is left of them moves to the front
+// where it is fewer than a record may have, so with few more than those that would be every few records.
 const BUFFER: usize = 98304;
 
-// The buffers that records are read into, made once for the run: a shell or parts of it, floats beside it, and what a split is lent.
+// The buffers that records are read into, made once for the run, since to clear them for each takes longer than most calls: a shell or parts of it,
+// floats beside it, and what a split is lent.
 #[derive(Clone, Copy, Default)]
 struct Buffers {
     shell: Shell,

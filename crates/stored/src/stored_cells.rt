@@ -87,7 +87,7 @@ impl Cell for usize {
 
 // ---- buffers
 
-// By hand, as the check derives no Clone here: of each T, and beside a ghost field.
+// By hand: beside a ghost field none is derived for a type with a parameter.
 impl<T: Copy> Clone for Buffer<T> {
     ghost is_clone = { λ b c. c ≡ b };
 

@@ -1,5 +1,5 @@
-// What a record of the stored list has: the buffers of a call, and the answer of a call. The buffers are read from the list by value;
-// both are compared with what stands there.
+// What a record of the stored list has: the buffers of a call, and the answer of a call. A buffer is made once, and filled anew for
+// each record. Both are compared with what stands in the list.
 
 pub mod answers;
 pub mod tables;
