@@ -1,6 +1,6 @@
 // Causes 1 to 5 of document 01's table, with document 02's of a preparation, for tables of edges and of vertices: every row is checked, and the lowest number wins.
 
-ghost use Rattle.std.specs.Prelude.{◌≡◌, true, ℕ, ◌+◌, ◌*◌, ◌≤◌, ◌<◌, eqb, length, get_or};
+ghost use Rattle.std.specs.Prelude.{◌≡◌, true, false, ℕ, ◌+◌, ◌*◌, ◌≤◌, ◌<◌, eqb, length, get_or};
 ghost use Rattle.std.specs.Float.{nan};
 ghost use Rattle.compress.specs.Refusals.{cause_of};
 ghost use Rattle.compress.specs.Rows.{floats_per_edge, floats_per_vertex, parameter_place, HasVertex, HasEdge, curve_at};
@@ -148,6 +148,18 @@ fn is_vertex_sound(vertices: &Table<Vertex>, i: usize) -> bool
 
 // ---- tables
 
+// Whether `is_sound` says yes of every row: the first pass.
+pub(crate) fn are_sound<S: Fn(usize) -> bool>(count: usize, is_sound: S) -> bool
+    requires { (i : ℕ) → i < count → S.pre is_sound i }
+    ensures yes { result ≡ true → (i : ℕ) → i < count → S.post is_sound i true }
+    ensures no { result ≡ false → (i : ℕ) × (i < count) × S.post is_sound i false }
+{
+    let sound = |i|
+        requires { S.pre is_sound i }
+    { is_sound(i) };
+    (0..count).all(sound)
+}
+
 // A table whose rows have the causes that `row` tells, none of them where `is_sound` says yes.
 pub fn table<R: Row, S: Fn(usize) -> bool, C: Fn(usize) -> Checked>(
     rows: &Table<R>,
@@ -166,10 +178,7 @@ pub fn table<R: Row, S: Fn(usize) -> bool, C: Fn(usize) -> Checked>(
     if !rows.fits(rows.count) {
         return Err(Refusal::Malformed);
     }
-    let sound = |i|
-        requires { S.pre is_sound i }
-    { is_sound(i) };
-    if (0..rows.count).all(sound) {
+    if are_sound(rows.count, is_sound) {
         return Ok(());
     }
     crate::lowest_cause(rows.count, row)

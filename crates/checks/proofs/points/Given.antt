@@ -3,7 +3,7 @@
 use mathlib.Core.Path.{◌≡◌, refl, ap, sym, ◌∙◌}
 use mathlib.Core.Bool.{Bool, true, false}
 use mathlib.Core.List.{List}
-use Prim.Native.Nat.{ℕ, zero, suc, ◌+◌, ◌*◌}
+use Prim.Native.Nat.{ℕ, zero, suc, ◌+◌, ◌*◌, ◌<◌}
 use native.Mathlib.Omega.{arith}
 use borrow.Author.Tests.{eqb-false, ltb-false}
 use lib.Dec.{eqb, ltb, eqb-suc-zero}
@@ -14,6 +14,8 @@ use Rattle.compress.specs.Rows.{numbers_per_vertex, floats_per_vertex, vertex_ki
 use Rattle.checks.specs.Causes.{lower_of, lowest_of, kind_cause, point_cause, vertex_cause, vertex_row_cause, pending_row_cause, table_cause, edges_cause, vertices_cause, pending_cause}
 use Rattle.checks.proofs.Accepted.{not_when}
 use Rattle.checks.proofs.Lowest.{lower_first, lower_last, lower_none, lower_swap, lower_join, lowest_both}
+use Rattle.compress.specs.Shell.{rows_fit}
+use Rattle.checks.proofs.tables.Told.{told_none, table_tested}
 use Rattle.checks.specs.points.Tables.{tables_cause}
 
 module _ (ns : List ℕ) (fs : List Float) (i : ℕ) where
@@ -53,6 +55,17 @@ table_told ns fs n =
     by_tests (ltb 4096 n) (ltb (length ns) (n * numbers_per_vertex)) (ltb (length fs) (n * floats_per_vertex)) (lowest_of (vertex_row_cause ns fs) n) (lowest_of (pending_row_cause ns) n) _
     (lowest_both (vertex_row_cause ns fs) (pending_row_cause ns) n)
 
+-- a pass over a table of given vertices says whether it has a cause, 7 included
+pub points_tested : (ns : List ℕ) (fs : List Float) (n : ℕ) (r : Bool)
+    → (r ≡ true → (rows_fit numbers_per_vertex floats_per_vertex ns fs n ≡ true)
+    × ((i : ℕ) → i < n → true ≡ eqb (lower_of (vertex_row_cause ns fs i) (pending_row_cause ns i)) 0))
+    → (r ≡ false → rows_fit numbers_per_vertex floats_per_vertex ns fs n ≡ true
+    → (i : ℕ) × (i < n) × (false ≡ eqb (lower_of (vertex_row_cause ns fs i) (pending_row_cause ns i)) 0))
+    → r ≡ eqb (lower_of (vertices_cause ns fs n) (pending_cause ns n)) 0
+points_tested ns fs n r all one =
+    table_tested numbers_per_vertex floats_per_vertex (λ i. lower_of (vertex_row_cause ns fs i) (pending_row_cause ns i)) ns fs n r all one
+    ∙ ap (λ (k : ℕ). eqb k 0) (table_told ns fs n)
+
 -- the causes of both tables, from what the steps gave
 pub causes_told : (vn : List ℕ) (vf : List Float) (en : List ℕ) (ef : List Float) (v e : ℕ) {a b r : ℕ}
     → a ≡ table_cause numbers_per_vertex floats_per_vertex (λ i. lower_of (vertex_row_cause vn vf i) (pending_row_cause vn i)) vn vf v → b ≡ edges_cause v en ef e → r ≡ lower_of a b
@@ -61,3 +74,11 @@ unfolding tables_cause
 causes_told vn vf en ef v e p q h =
     h ∙ rw (p, q, table_told vn vf v) (lower_join (vertices_cause vn vf v) (pending_cause vn v) (edges_cause v en ef e)
     ∙ ap (lower_of (vertices_cause vn vf v)) (lower_swap (pending_cause vn v) (edges_cause v en ef e)))
+
+-- and where the vertices have none, those of the edges
+pub edges_told : (vn : List ℕ) (vf : List Float) (en : List ℕ) (ef : List Float) (v e : ℕ) {b : Bool} {r : ℕ} → b ≡ eqb (lower_of (vertices_cause vn vf v) (pending_cause vn v)) 0 → b ≡ true
+    → r ≡ edges_cause v en ef e → r ≡ tables_cause vn vf en ef v e
+unfolding tables_cause
+edges_told vn vf en ef v e {b} p q h =
+    let z = lower_none (vertices_cause vn vf v) (pending_cause vn v) (told_none b _ p q) in
+    h ∙ rw (z.0, z.1, lower_first (lower_of (edges_cause v en ef e) 0)) (sym (lower_last (edges_cause v en ef e)))
