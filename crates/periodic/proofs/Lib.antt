@@ -1,3 +1,4 @@
 pub mod Choices
 pub mod Copies
 pub mod Laws
+pub mod Refused
