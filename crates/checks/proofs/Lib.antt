@@ -3,3 +3,4 @@ pub mod Numbers
 pub mod Sound
 pub mod Accepted
 pub mod Lying
+pub mod Small

@@ -15,7 +15,7 @@ use std::io;
 use std::process::ExitCode;
 
 // The rims are cut and joined with a seam to one wire.
-fn join(rt: &impl Print, pipe: &Shell, k: u32) -> Result<Shell, Stop> {
+fn join(rt: &Onward<impl Print>, pipe: &Shell, k: u32) -> Result<Shell, Stop> {
     let cut = pipe_rims::cut_rims(rt, pipe, k)?;
     pipe_ends::sort(rt, &cut)?;
     let ends = pipe_ends::nearest_ends(rt, &cut)?;
@@ -24,13 +24,13 @@ fn join(rt: &impl Print, pipe: &Shell, k: u32) -> Result<Shell, Stop> {
 }
 
 // The wire is divided along the vertices that the search finds.
-fn divide(rt: &impl Print, joined: &Shell, k: u32) -> Result<Shell, Stop> {
+fn divide(rt: &Onward<impl Print>, joined: &Shell, k: u32) -> Result<Shell, Stop> {
     let divisor = pipe_ends::search(rt, joined)?;
     pipe_seam::split_again(rt, joined, divisor, k)
 }
 
 // The way of the pipe, up to the contours.
-fn heal(rt: &impl Print, k: u32) -> Result<(), Stop> {
+fn heal(rt: &Onward<impl Print>, k: u32) -> Result<(), Stop> {
     let pipe = pipe_shell::burner_pipe();
     writing::write_shell(rt, &pipe, 0)?;
     let joined = join(rt, &pipe, k)?;
@@ -41,7 +41,7 @@ fn heal(rt: &impl Print, k: u32) -> Result<(), Stop> {
 }
 
 // The way, with the line above it. It ends where the printer answers an error, as that of `main` never does.
-fn write_way(rt: &impl Print, k: u32) -> io::Result<()> {
+fn write_way(rt: &Onward<impl Print>, k: u32) -> io::Result<()> {
     println!(rt; "burner pipe, radius 1, height 4:")?;
     match heal(rt, k) {
         Ok(()) => Ok(()),

@@ -1,17 +1,20 @@
 // The steps of the healing that find where the face is to be divided, each a call of the port: the sorting of wires, the nearest ends of the
 // rims, and the search for a wire that uses an edge twice. What a call answers is written.
 
-ghost use Rattle.std.specs.Prelude.{IfOk};
-ghost use Rattle.pipe.specs.pipe_ends.Steps.{ends_said, divisor_said, Answered};
+ghost use Rattle.std.specs.Prelude.{IfOk, OnOk};
+ghost use Rattle.pipe.specs.pipe_ends.Steps.{RimsOpen, ends_said, divisor_said, Answered};
 
 use correction::nearest::Ends;
 use pipe_shell::{Shell, Stop};
+use printing::Onward;
 use rows::tables::Tables;
 use std::io;
 use wire_kinds::LentEnds;
 
 // Sorts the wires: just the two rims are open.
-pub fn sort(rt: &impl Print, s: &Shell) -> Result<(), Stop> {
+pub fn sort(rt: &Onward<impl Print>, s: &Shell) -> Result<(), Stop>
+    ensures { OnOk result (RimsOpen s.now) }
+{
     print!(rt; "2. sorting of wires:")?;
     let ends = LentEnds {
         floats: &pipe_shell::ends_of_wires(),
@@ -31,14 +34,14 @@ pub fn sort(rt: &impl Print, s: &Shell) -> Result<(), Stop> {
 }
 
 // The two vertices that a call answers.
-fn write_ends(rt: &impl Print, ends: Ends) -> io::Result<()> {
+fn write_ends(rt: &Onward<impl Print>, ends: Ends) -> io::Result<()> {
     let v0 = ends.v0;
     let v1 = ends.v1;
     println!(rt; " vertices {v0} and {v1}")
 }
 
 // The nearest ends of the two rims, from vertex 0 on, where the turn begins.
-pub fn nearest_ends(rt: &impl Print, s: &Shell) -> Result<Ends, Stop>
+pub fn nearest_ends(rt: &Onward<impl Print>, s: &Shell) -> Result<Ends, Stop>
     ensures { IfOk result (λ ends. Answered (ends_said s.now) ends) }
 {
     print!(rt; "3. nearest ends:")?;
@@ -54,7 +57,7 @@ pub fn nearest_ends(rt: &impl Print, s: &Shell) -> Result<Ends, Stop>
 }
 
 // The two vertices that divide the wire that uses the seam twice.
-pub fn search(rt: &impl Print, s: &Shell) -> Result<Ends, Stop>
+pub fn search(rt: &Onward<impl Print>, s: &Shell) -> Result<Ends, Stop>
     ensures { IfOk result (λ ends. Answered (divisor_said s.now) ends) }
 {
     print!(rt; "6. non-simple search:")?;

@@ -5,12 +5,13 @@ ghost use Rattle.pipe.specs.pipe_join.Steps.{join_of, Joined};
 
 use correction::nearest::Ends;
 use pipe_shell::{Shell, Stop, Wires, writing};
+use printing::Onward;
 use rows::lent::WiresMut;
 
 // Joins the two rims with the seam's wire, which the shell has now.
 // The wires to write are put together here: after a loan by a method nothing is known of what the shell holds, and `joined` fails.
 // The words for what a loan leaves are for a reference or a pair of them, and not for a struct.
-pub fn join_rims(rt: &impl Print, rims: &Wires, s: &Shell, d: Ends) -> Result<Shell, Stop>
+pub fn join_rims(rt: &Onward<impl Print>, rims: &Wires, s: &Shell, d: Ends) -> Result<Shell, Stop>
     ensures same { IfOk result (λ left. (left.vertices ≡ s.now.vertices) × (left.edges ≡ s.now.edges)) }
     ensures joined { IfOk result (λ left. Joined (join_of rims.now s.now d) left) }
 {

@@ -6,12 +6,13 @@ ghost use Rattle.pipe.specs.pipe_rims.Steps.{pass_of, Passed};
 
 use compress::FLOATS_PER_VERTEX;
 use pipe_shell::{Shell, Stop, Vertices, writing};
+use printing::Onward;
 use rows::lent::WiresMut;
 use rows::tables::TableMut;
 use std::io;
 
 // The point at which a host evaluates the new vertex of the lower rim, and the u at which it projects it.
-fn write_cut(rt: &impl Print, vertices: &Vertices, k: u32) -> io::Result<()> {
+fn write_cut(rt: &Onward<impl Print>, vertices: &Vertices, k: u32) -> io::Result<()> {
     let x = vertices.floats[2 * FLOATS_PER_VERTEX];
     let y = vertices.floats[2 * FLOATS_PER_VERTEX + 1];
     let u = pipe_shell::uv_of(2, k).u;
@@ -21,7 +22,7 @@ fn write_cut(rt: &impl Print, vertices: &Vertices, k: u32) -> io::Result<()> {
 // Cuts the rims, k eighths of the way round; a host evaluates the points of the new vertices.
 // The edges and wires to write are put together here: after a loan by a method nothing is known of what the shell holds, and `passed` fails.
 // The words for what a loan leaves are for a reference or a pair of them, and not for a struct.
-pub fn cut_rims(rt: &impl Print, s: &Shell, k: u32) -> Result<Shell, Stop>
+pub fn cut_rims(rt: &Onward<impl Print>, s: &Shell, k: u32) -> Result<Shell, Stop>
     ensures same { IfOk result (λ left. left.wires.count ≡ s.now.wires.count) }
     ensures passed { IfOk result (λ left. Passed (pass_of k s.now) left) }
 {

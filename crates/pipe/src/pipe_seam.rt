@@ -7,6 +7,7 @@ ghost use Rattle.pipe.specs.pipe_seam.Steps.{SplitAlong};
 use compress::Refusal;
 use correction::nearest::Ends;
 use pipe_shell::{Shell, Stop, Wires, writing};
+use printing::Onward;
 use rows::lent;
 use rows::tables::TableMut;
 use split::seams::Divisor;
@@ -22,7 +23,13 @@ fn seam_points(d: Ends, k: u32) -> Result<[f64; 4], Refusal> {
 // Splits the face along the seam between two vertices, with so many of its wires, from the first on, to be rebuilt.
 // The table to write is put together here: after a loan by `table_mut` nothing is known of what the shell's table holds, and `outcome` fails.
 // The words for what a loan leaves are for a reference or a pair of them, and not for a struct.
-fn split_along(rt: &impl Print, s: &Shell, d: Ends, rebuilt: usize, k: u32) -> Result<Shell, Stop>
+fn split_along(
+    rt: &Onward<impl Print>,
+    s: &Shell,
+    d: Ends,
+    rebuilt: usize,
+    k: u32,
+) -> Result<Shell, Stop>
     ensures same { IfOk result (λ left. left.vertices ≡ s.now.vertices) }
     ensures outcome { IfOk result (λ left. SplitAlong s.now d rebuilt left) }
 {
@@ -63,7 +70,7 @@ fn split_along(rt: &impl Print, s: &Shell, d: Ends, rebuilt: usize, k: u32) -> R
 }
 
 // Splits with the seam between the rims. Both rims are open, so that no wire is to be rebuilt.
-pub fn split_seam(rt: &impl Print, s: &Shell, d: Ends, k: u32) -> Result<Shell, Stop>
+pub fn split_seam(rt: &Onward<impl Print>, s: &Shell, d: Ends, k: u32) -> Result<Shell, Stop>
     ensures same { IfOk result (λ left. left.vertices ≡ s.now.vertices) }
     ensures outcome { IfOk result (λ left. SplitAlong s.now d 0 left) }
 {
@@ -72,7 +79,7 @@ pub fn split_seam(rt: &impl Print, s: &Shell, d: Ends, k: u32) -> Result<Shell, 
 }
 
 // Splits along the vertices that the search has found. All wires are to be rebuilt.
-pub fn split_again(rt: &impl Print, s: &Shell, d: Ends, k: u32) -> Result<Shell, Stop>
+pub fn split_again(rt: &Onward<impl Print>, s: &Shell, d: Ends, k: u32) -> Result<Shell, Stop>
     ensures same { IfOk result (λ left. left.vertices ≡ s.now.vertices) }
     ensures outcome { IfOk result (λ left. SplitAlong s.now d s.now.wires.count left) }
 {

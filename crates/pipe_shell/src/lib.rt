@@ -5,8 +5,9 @@ mod notation;
 pub mod pipe_tally;
 pub mod writing;
 
-ghost use Rattle.std.specs.Prelude.{◌≡◌, drop, get_or, replicate};
-ghost use Rattle.pipe_shell.specs.Projected.{u_of};
+ghost use Rattle.std.specs.Prelude.{◌≡◌, [], ◌∷◌, drop, get_or, replicate, take};
+ghost use Rattle.pipe_shell.specs.Projected.{u_of, ends_of_rims};
+ghost use Rattle.compress.specs.Wires.{wires_of};
 
 use compress::{
     Curve, Edge, FLOATS_PER_EDGE, FLOATS_PER_VERTEX, NUMBERS_PER_EDGE, NUMBERS_PER_VERTEX,
@@ -248,7 +249,10 @@ fn rims() -> Edges {
 }
 
 // The pipe as a drawing office sends it, with the wires 0+ and 1-.
-pub fn burner_pipe() -> Shell {
+pub fn burner_pipe() -> Shell
+    ensures vertices { result.vertices.count ≡ 2 }
+    ensures wires { wires_of result.wires.uses (take result.wires.count result.wires.lengths) ≡ (0 ∷ []) ∷ (3 ∷ []) ∷ [] }
+{
     Shell {
         vertices: given(2, 0),
         edges: rims(),
@@ -276,6 +280,8 @@ pub fn uv_of(v: u32, k: u32) -> Uv
 
 // The uv points of each wire's first and last end and its area, as a host finds them along the wire: the lower rim goes round
 // forward, the upper one back.
-pub fn ends_of_wires() -> [f64; 10] {
+pub fn ends_of_wires() -> [f64; 10]
+    ensures { result ≡ ends_of_rims }
+{
     [0.0, 0.0, TURN, 0.0, 0.0, TURN, HEIGHT, 0.0, HEIGHT, 0.0]
 }

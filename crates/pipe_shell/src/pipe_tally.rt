@@ -1,7 +1,10 @@
-// The tally of uses in the contours.
+// The tally of uses in the contours. No write is told to have failed: the printer passes over it.
+
+ghost use Rattle.std.specs.Prelude.{IsOk};
 
 use crate::notation::{Use, Wire};
 use crate::{Shell, Wires, notation};
+use printing::Onward;
 use std::io;
 
 // How many uses the six edges of the table have, both directions.
@@ -13,7 +16,9 @@ fn uses_of(w: &Wires) -> &[u32] {
 }
 
 // Each use that is among these, and how often.
-fn write_tally(rt: &impl Print, uses: &[u32]) -> io::Result<()> {
+fn write_tally(rt: &Onward<impl Print>, uses: &[u32]) -> io::Result<()>
+    ensures { IsOk result }
+{
     for u in 0..USES {
         let found = notation::places(uses, u);
         if found != 0 {
@@ -42,7 +47,9 @@ fn are_kept(uses: &[u32], rebuilt: &[u32], old: usize) -> bool {
 }
 
 // One contour with its tally.
-fn write_contour(rt: &impl Print, k: usize, uses: &[u32]) -> io::Result<()> {
+fn write_contour(rt: &Onward<impl Print>, k: usize, uses: &[u32]) -> io::Result<()>
+    ensures { IsOk result }
+{
     let wire = Wire(uses);
     let count = uses.len();
     print!(rt; "contour {k}:{wire}   tally of {count} uses:")?;
@@ -51,7 +58,9 @@ fn write_contour(rt: &impl Print, k: usize, uses: &[u32]) -> io::Result<()> {
 
 // The contours, each with its tally.
 #[tactic(auto, using(compress::proofs::Wires::length_wires))]
-pub fn write_contours(rt: &impl Print, s: &Shell) -> io::Result<()> {
+pub fn write_contours(rt: &Onward<impl Print>, s: &Shell) -> io::Result<()>
+    ensures { IsOk result }
+{
     for (k, uses) in s.wires.lent().each().enumerate() {
         write_contour(rt, k, uses)?;
     }
@@ -59,7 +68,9 @@ pub fn write_contours(rt: &impl Print, s: &Shell) -> io::Result<()> {
 }
 
 // Whether the last split has kept every use of the shell before it.
-pub fn write_kept(rt: &impl Print, before: &Shell, s: &Shell) -> io::Result<()> {
+pub fn write_kept(rt: &Onward<impl Print>, before: &Shell, s: &Shell) -> io::Result<()>
+    ensures { IsOk result }
+{
     let rebuilt = uses_of(&before.wires);
     let uses = uses_of(&s.wires);
     let n = uses.len();

@@ -87,7 +87,7 @@ fn replay_lists(list: &mut Reader<'_>, b: &mut Buffers, run: &mut Run) -> Result
 }
 
 // Replays the lists, and writes the tallies, or where the list is damaged.
-fn write_replay(rt: &impl Print) -> std::io::Result<()> {
+fn write_replay(rt: &Onward<impl Print>) -> std::io::Result<()> {
     let mut buf = [0; BUFFER];
     let mut buffers = Buffers::default();
     let mut run = Run::new();

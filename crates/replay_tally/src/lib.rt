@@ -1,10 +1,11 @@
 // How far a replay is: the place in the lists, and how many calls answered the same.
 #![tactic(auto)]
 
-ghost use Rattle.std.specs.Prelude.{◌≡◌};
+ghost use Rattle.std.specs.Prelude.{◌≡◌, IsOk};
 ghost use Rattle.replay_tally.specs.declared.Part.TheVariants.{Stored};
 ghost use Rattle.replay_tally.specs.Parts.{altered_after, counted, part_behind};
 
+use printing::Onward;
 use std::{fmt, io};
 
 // How many kinds of calls there are.
@@ -124,7 +125,9 @@ impl Run {
     }
 
     // Writes how many calls answered the same: a line for each kind of call, and one for the altered records.
-    pub fn write(&self, rt: &impl Print) -> io::Result<()> {
+    pub fn write(&self, rt: &Onward<impl Print>) -> io::Result<()>
+        ensures { IsOk result }
+    {
         for tally in &self.tallies {
             println!(rt; "{tally}")?;
         }
@@ -132,7 +135,9 @@ impl Run {
     }
 
     // Writes at which record the list is damaged.
-    pub fn write_damage(&self, rt: &impl Print) -> io::Result<()> {
+    pub fn write_damage(&self, rt: &Onward<impl Print>) -> io::Result<()>
+        ensures { IsOk result }
+    {
         let number = self.record;
         println!(rt; "the list is damaged at record {number}")
     }

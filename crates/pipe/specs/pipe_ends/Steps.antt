@@ -1,10 +1,17 @@
 -- What the calls of the steps answer, of a shell. Definitions only.
-use Rattle.std.specs.Prelude.{◌≡◌, drop, get_or}
+use Rattle.std.specs.Prelude.{◌≡◌, List, [], ◌∷◌, ℕ, drop, get_or}
 use Rattle.compress.specs.Said.{Said, result}
 use Rattle.correction.specs.Correction.{nearest_correction}
 use Rattle.correction.specs.declared.nearest.Ends.{Ends}
 use Rattle.non_simple.specs.Search.{find_non_simple}
 use Rattle.pipe_shell.specs.declared.Shell.{Shell}
+use Rattle.pipe_shell.specs.Projected.{ends_of_rims}
+use Rattle.wire_kinds.specs.Kinds.{unsorted, sort_wires}
+
+-- the sorting of the wires answers that the two rims, 0 and 1, are open
+abbrev pub RimsOpen : Shell → Type 0
+RimsOpen s = (n : ℕ) × (closed : List ℕ)
+    × (sort_wires ends_of_rims s.wires.count (0 ∷ 0 ∷ []) (0 ∷ 0 ∷ []) ≡ unsorted (result n) (0 ∷ 1 ∷ []) closed)
 
 -- the nearest ends of the first two wires, from vertex 0 on
 abbrev pub ends_said : Shell → Said Ends
